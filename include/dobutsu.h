@@ -62,12 +62,10 @@ enum {
 
 enum { DOBUTSU_DRAW = 0, DOBUTSU_WIN = 1, DOBUTSU_LOSS = 2 };
 
-/* Kinds of pieces, and where a piece comes from that is dropped. */
-enum { DOBUTSU_CHICK = 0, DOBUTSU_ELEPHANT = 1, DOBUTSU_GIRAFFE = 2, DOBUTSU_HEN = 3, DOBUTSU_LION = 4, DOBUTSU_FROM_HAND = 12 };
-
-/* What stands on a square: 0 where nothing does, else DOBUTSU_MOVER or DOBUTSU_ENEMY and the piece's kind: DOBUTSU_ENEMY + DOBUTSU_LION is the lion of the side
-   that isn't to move. */
-enum { DOBUTSU_MOVER = 1, DOBUTSU_ENEMY = 6 };
+/* Kinds of pieces, and where a piece comes from that is dropped. What stands on a square: 0 where nothing does, else DOBUTSU_MOVER or DOBUTSU_ENEMY and the
+   piece's kind: DOBUTSU_ENEMY + DOBUTSU_LION is the lion of the side that isn't to move. All are of one type, so that C++ adds them without a warning. */
+enum { DOBUTSU_CHICK = 0, DOBUTSU_ELEPHANT = 1, DOBUTSU_GIRAFFE = 2, DOBUTSU_HEN = 3, DOBUTSU_LION = 4, DOBUTSU_FROM_HAND = 12,
+       DOBUTSU_MOVER = 1, DOBUTSU_ENEMY = 6 };
 
 /* The status of a position: open, the enemy lion can be caught, the enemy lion has reached its far row (the side to move has lost), or there is no move (it has
    lost too). */

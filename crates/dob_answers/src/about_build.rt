@@ -1,6 +1,6 @@
 // Answers about a build by one owner: how many classes of a piece set it finds won, lost and drawn.
-use dob_alone::{Fault, alone};
 use dob_pieces::{Family, Memory};
+use dob_reference::{Fault, alone};
 use dob_value::{Table, Value};
 use std::alloc::{AllocError, Global};
 

@@ -8,7 +8,7 @@ ghost use Rattle.dob_rank.specs.Families.{classes_of};
 use crate::opened::Opened;
 use crate::value_names::{Named, read_value};
 use dob_classes::Classes;
-use dob_lawful::opening_in;
+use dob_history::opening_in;
 use dob_lists::{SegmentLength, Segments};
 use dob_pieces::{Family, Memory};
 use dob_safra::NodeCount;

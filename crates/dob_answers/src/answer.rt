@@ -81,10 +81,13 @@ fn told(alloc: Global, answer: Result<String, Fault>) -> Result<String, Memory> 
 }
 
 // The answer, or the line of the fault of a build.
-fn told_build(alloc: Global, answer: Result<String, dob_alone::Fault>) -> Result<String, Memory> {
+fn told_build(
+    alloc: Global,
+    answer: Result<String, dob_reference::Fault>,
+) -> Result<String, Memory> {
     match answer {
         Ok(text) => Ok(text),
-        Err(dob_alone::Fault::Memory) => Err(Memory),
+        Err(dob_reference::Fault::Memory) => Err(Memory),
         Err(fault) => fault_line(alloc, fault),
     }
 }
@@ -107,7 +110,6 @@ fn told_world(alloc: Global, answer: Result<String, dob_world::Fault>) -> Result
     }
 }
 
-// A fault's line.
 fn fault_line<F: Display + Drop>(alloc: Global, fault: F) -> Result<String, Memory> {
     Ok(format!(in alloc; "dobutsu: {fault}")?)
 }

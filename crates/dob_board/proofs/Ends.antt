@@ -14,7 +14,6 @@ use Rattle.dob_board.proofs.Once.{run_once}
 use Rattle.dob_board.proofs.Starts.{elsewhere}
 
 -- ---- join
-
 nobody_is_view : (n port : ℕ) (halt : Halt) (owner : ℕ → ℕ) (ring : Ring) (log : List BoardEvent) → IsView n owner ring halt log port nobody
 nobody_is_view n port halt owner ring log = record {
   was_witnessed = (log, sym (append-nil log));
@@ -94,7 +93,6 @@ joins_call key n i id other view me stand observed key_is from_is me_is =
     subst (λ (p : ℕ × View). Joins (Held p.0) id view other p.1 (joined view p.1) nobody) (λ q. (sym key_is q, sym view_is q)) from_here
 
 -- ---- read
-
 reads : (n w id : ℕ) (words : List ℕ) (views : List View) (view : View) (held : IsHeld n words views) → get_elem? views id ≡ some view → view.from ≡ 0 →
     IsWord n view.stands held.log w (slice_index words w)
 reads n w id words views view held at from_is =
@@ -235,7 +233,6 @@ all_left board n seats me are me_is =
     }
 
 -- ---- the words
-
 pub read_more : (n word found : ℕ) (stands : List SeatState) (was log : List BoardEvent) (words : List ℕ) → word < length words → (0 < word → log ≡ was) →
     ((w : ℕ) → w < word → IsWord n stands was w (get_or words w 0)) → IsWord n stands log word found →
     (w : ℕ) → w < word + 1 → IsWord n stands log w (get_or (set words word found) w 0)

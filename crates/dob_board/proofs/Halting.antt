@@ -215,7 +215,6 @@ module _ {n i id : ℕ} {words : List ℕ} {views : List View} {stand : SeatStat
     }
 
 -- ---- what the steps ask
-
 pub halts_asks : (seat : NodeSeat) → Asks seat 2 (λ x. x) (Halted (step 0 2 0 0 none))
 halts_asks seat = asks_load seat 2 (Halted (step 0 2 0 0 none)) (omega arith) (λ words views here.
     let made = looks_at_halt here in (

@@ -32,7 +32,6 @@ shown_bounds n i ring stand lawful shows token e =
     )
 
 -- ---- a node's counter
-
 sum_first : (n : ℕ) (f : ℕ → ℕ) → sum_below (suc n) f ≡ f 0 + sum_below n (λ k. f (suc k))
 sum_first zero f = omega arith
 sum_first (suc n) f = omega (arith, sum_first n f)
@@ -50,7 +49,6 @@ counter_is n i halt ring stand is = λ q. pos (sum_shown n stand.posted (ring.po
     -ℤ pos (sum_shown n stand.taken (λ j. ring.taken j i) is.long.taken is.shows.taken q)
 
 -- ---- token
-
 meets_stand : (n i : ℕ) (halt : Halt) (ring : Ring) (stand : SeatState) → i < n → IsStand n ring halt i stand → IsStand n ring halt i (meets i stand ring.token)
 meets_stand n i halt ring stand within is =
     counts_stay n i ring ring halt halt stand stand.black (token_at i ring.token) stand.halt within (λ k l k_in l_in. refl) (λ k l k_in l_in. refl) is.shows.colour
@@ -75,7 +73,6 @@ meets_asks seat = asks_load seat 1 (Met (step 0 1 0 0 none)) (omega arith) (λ w
     ))
 
 -- ---- pass
-
 pub posted_apart : (n w v : ℕ) (words : List ℕ) → w < 3 → (k l : ℕ) → posted_in n (set words w v) k l ≡ posted_in n words k l
 posted_apart n w v words head k l = get_or-set_other words w (posted_word n k l) v 0 (λ e. omega (arith, e))
 

@@ -59,7 +59,6 @@ pub head_stays : (words : List ℕ) (w v k : ℕ) → 3 ≤ w → k < 3 → get_
 head_stays words w v k behind before = get_or-set_other words w k v 0 (λ e. omega (arith, e))
 
 -- ---- a function with another value at i
-
 abbrev pub with_at : {A : Type 0} → ℕ → A → (ℕ → A) → ℕ → A
 with_at i x f k = cond (eqb k i) x (f k)
 

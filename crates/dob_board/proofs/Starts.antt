@@ -10,7 +10,6 @@ use Rattle.dob_board.proofs.Kept.{has_all, one_is_view, knows_now, nodes_set, wi
 use Rattle.dob_board.proofs.Allowed.{Seated, Held}
 
 -- ---- split
-
 views_end : {A : Type 0} → (l : List A) (a b : A) (j : ℕ) → get_elem? (l ++ a ∷ []) j ≡ some b → (get_elem? l j ≡ some b) ⊎ ((j ≡ length l) × (a ≡ b))
 views_end [] a b zero e = inr (refl, some-injective a b e)
 views_end [] a b (suc j) e = absurd (some-ne-none b (sym e))
@@ -106,7 +105,6 @@ splits_call key n k id me key_is within me_is =
     subst (λ (p : ℕ × View). Splits (Held p.0) id p.1 (others_of p.1) (first_of p.1)) (λ q. (sym key_is q, sym view_is q)) (split (n - suc k))
 
 -- ---- start
-
 abbrev pub zeros_of : ℕ → List ℕ
 zeros_of m = replicate m 0
 

@@ -90,7 +90,6 @@ module _ {n i id : ℕ} {words : List ℕ} {views : List View} {stand : SeatStat
       seat.held.told (λ k apart. refl) (posts_leaves n i j old new seat.held.halt moved) (posts_stand n i j old new seat.held.halt stand other moved mine.is_stand)
 
 -- ---- look
-
 sees_stand : (n i j : ℕ) (halt : Halt) (ring : Ring) (stand : SeatState) → i < n → j < n → IsStand n ring halt i stand
     → IsStand n ring halt i (sees stand j (ring.posted j i))
 sees_stand n i j halt ring stand i_in j_in is = record {
@@ -123,7 +122,6 @@ module _ {n i id : ℕ} {words : List ℕ} {views : List View} {stand : SeatStat
       (made.0, made.1, is.seen j j_in, omega (arith, is.shows.taken j j_in, seat.held.lawful.in_order j i j_in mine.within))
 
 -- ---- take
-
 pub painted_colours : (n i : ℕ) (colour : Bool) (old new : Ring) → ((k : ℕ) → new.black k ≡ with_at i colour old.black k) → Colours n old new i colour
 painted_colours n i colour old new is = record {
   colour_is = is i ∙ with_here i colour old.black;

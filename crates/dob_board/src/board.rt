@@ -14,9 +14,9 @@ use atomic_table::Seat;
 use dob_safra::NodeCount;
 use std::sync::Arc;
 
-/// A board: the words that the seats of its nodes share.
+/// A blackboard: the words that the seats of its nodes share.
 #[derive(Drop)]
-pub struct Board {
+pub struct Blackboard {
     pub(crate) shared: Arc<Words>,
     // The seat from which the seats of the nodes were split, and into which they are joined again.
     pub(crate) rest: Seat<(), View>,

@@ -9,12 +9,12 @@ ghost use Rattle.dob_board.specs.Seats.{stand_of, witnessed_by, IsSeatOf, AreSea
 use crate::rule::{Back, Reads};
 use crate::seat::Words;
 use crate::view::View;
-use crate::{Board, Closed, NodeSeat};
+use crate::{Blackboard, Closed, NodeSeat};
 use atomic_table::Seat;
 use dob_safra::NodeCount;
 use std::sync::Arc;
 
-impl Board {
+impl Blackboard {
     /// The words, once the seats of all nodes are back. They are exactly what the seats counted, and what the events of the board
     /// made of the token and the halt.
     pub fn close(self, seats: Vec<NodeSeat>) -> Closed
@@ -22,7 +22,7 @@ impl Board {
         ensures words { AreWords self.nodes seats.items result.words.items }
         ensures history { IsBoardHistory self.nodes seats.items result }
     {
-        let Board {
+        let Blackboard {
             shared,
             mut rest,
             words,

@@ -3,9 +3,9 @@
 /// Whether the run goes on, and if not, why.
 #[derive(Clone, Copy, PartialEq, Eq)]
 pub enum Halt {
-    /// It goes on.
+    /// The run goes on.
     Running,
-    /// Its end was announced.
+    /// Node 0 has announced the end of the run.
     Ended,
     /// The node of that number failed it.
     Failed(usize),

@@ -25,7 +25,7 @@ mod tokens;
 mod view;
 mod words;
 
-pub use board::{Board, Closed};
+pub use board::{Blackboard, Closed};
 pub use counts::Counts;
 pub use fault::{Fault, NotPosted};
 pub use halt::Halt;

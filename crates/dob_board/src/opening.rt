@@ -14,20 +14,20 @@ use crate::rule::FirstNode;
 use crate::seat::Words;
 use crate::view::{SeatState, View};
 use crate::words::{NODES, TOKEN, word_count};
-use crate::{Board, Fault, Halt, NodeSeat};
+use crate::{Blackboard, Fault, Halt, NodeSeat};
 use atomic_table::{Seat, Table};
 use dob_safra::{NodeCount, Token, pack};
 use std::alloc::{AllocError, Global};
 use std::sync::Arc;
 
-impl Board {
+impl Blackboard {
     /// Opens a board of `nodes` nodes, with the seat of each in their order. At the start nothing is posted or taken, each
     /// node is black, and the black token is at node 0 with sum 0.
     ///
     /// # Errors
     ///
     /// E9 if the number isn't 1 to 16; E23 if no memory is left.
-    pub fn open(alloc: Global, nodes: usize) -> Result<(Board, Vec<NodeSeat>), Fault>
+    pub fn open(alloc: Global, nodes: usize) -> Result<(Blackboard, Vec<NodeSeat>), Fault>
         ensures size { (result ≡ Err fault.Nodes) ↔ (¬ IsSize nodes) }
         ensures nodes { IfOk result (λ opened. opened.0.nodes ≡ nodes) }
         ensures seats { IfOk result (λ opened. AreSeats opened.0.rest.table_id nodes opened.1.items) }
@@ -36,7 +36,7 @@ impl Board {
         let Some(nodes) = NodeCount::new(nodes) else {
             return Err(Fault::Nodes);
         };
-        let opened = Board::open_for(alloc, nodes)?;
+        let opened = Blackboard::open_for(alloc, nodes)?;
         Ok(opened)
     }
 
@@ -45,7 +45,10 @@ impl Board {
     /// # Errors
     ///
     /// `AllocError` if memory runs out.
-    pub fn open_for(alloc: Global, nodes: NodeCount) -> Result<(Board, Vec<NodeSeat>), AllocError>
+    pub fn open_for(
+        alloc: Global,
+        nodes: NodeCount,
+    ) -> Result<(Blackboard, Vec<NodeSeat>), AllocError>
         ensures nodes { IfOk result (λ opened. opened.0.nodes ≡ nodes) }
         ensures seats { IfOk result (λ opened. AreSeats opened.0.rest.table_id nodes opened.1.items) }
         ensures fresh { IfOk result (λ opened. map stand_of opened.1.items ≡ replicate nodes (fresh nodes)) }
@@ -55,7 +58,7 @@ impl Board {
         let (table, mut rest) = Table::of_words(alloc, &words, &key)?;
         let shared = Arc::new(alloc, table)?;
         let seats = all_seats(alloc, &shared, &mut rest, nodes)?;
-        let board = Board {
+        let board = Blackboard {
             shared,
             rest,
             words,
@@ -65,7 +68,6 @@ impl Board {
     }
 }
 
-// The words at the start.
 fn start_words(alloc: Global, nodes: NodeCount) -> Result<Vec<u64>, AllocError>
     ensures { IfOk result (λ words. (word : ℕ) × IsPacked first_token word × (words.items ≡ first_words nodes word)) }
 {

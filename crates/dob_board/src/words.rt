@@ -57,7 +57,6 @@ impl NodeSeat {
     }
 }
 
-// The halt of the word.
 pub(crate) fn halt_of(word: u64) -> Halt
     ensures { halt_word result ≡ word }
 {

@@ -1,6 +1,6 @@
 -- The table that was built, the file that is filled by it, and why there is none.
 use Rattle.dob_build.proofs.Common.{◌∙◌, ◌≡◌, Bool, List, Option, ap, inl, inr, refl, subst, sym, ℕ, Err, IsTrue, Profile, family_of, bytes_of, Change, HasJust}
-use Rattle.dob_build.proofs.Common.{SameFiles, ShelfChange, ShelfState, Fault}
+use Rattle.dob_build.proofs.Common.{SameFiles, ShelfChange, ShelfState, ProgramFault}
 use Rattle.std.specs.Prelude.{MatchResult, Ok, Result, Some, String, string_bytes}
 use Rattle.dob_safra.specs.Laws.{IsSize}
 use Rattle.dob_pieces.specs.declared.piece_set.PieceSet.{PieceSet}
@@ -8,10 +8,10 @@ use Rattle.dob_pieces.specs.Sets.{set_text}
 use Rattle.dob_pieces.specs.declared.profile.Family.{Family}
 use Rattle.dob_value.specs.Follows.{IsValueTable}
 use Rattle.dob_run.specs.declared.built_table.Built.{Built}
-use Rattle.dob_stops.specs.declared.fault.Fault.{Fault as RunFault}
-use Rattle.dob_stops.specs.declared.fault.Fault.TheVariants.{Nodes}
+use Rattle.dob_share.specs.declared.build_fault.BuildFault.{BuildFault}
+use Rattle.dob_share.specs.declared.build_fault.BuildFault.TheVariants.{Nodes}
 use Rattle.dob_run.specs.Builds.{Builds}
-use Rattle.dob_files.specs.declared.fault.Fault.TheVariants.{Run, File, Memory}
+use Rattle.dob_files.specs.declared.fault.ProgramFault.TheVariants.{Run, File, Memory}
 use Rattle.dob_build.specs.Builds.{AreBuildLines, AreBuilt, AreNodes, HasNoBuild, HaveBuilt, IsBuildFault, IsRunFault, IsTableFor, IsUnbuilt, always_yes}
 use Rattle.dob_files.specs.Keeping.{AreThese, FillsSink, IsShelfFault, IsWritingFault, LeavesFiles}
 use Rattle.dob_lines.specs.Tallies.{class_lines}
@@ -35,19 +35,19 @@ table_for profile text set number nodes built named asked (is, by) = record {
 module _ (profile : Profile) (text : List ℕ) (set : PieceSet) (named : text ≡ set_text set) (number : Option ℕ) (nodes : ℕ)
     (asked : AreNodes number nodes) (size : IsSize nodes) where
   -- why no file was filled is why nothing is built
-  unbuilt : (fault : Fault) → IsUnbuilt (family_of set profile) nodes fault → HasNoBuild profile text number fault
+  unbuilt : (fault : ProgramFault) → IsUnbuilt (family_of set profile) nodes fault → HasNoBuild profile text number fault
   unbuilt (Run f) holds = (set, named, nodes, asked, holds)
   unbuilt (File f) holds = (holds.0.table, table_for profile text set number nodes holds.0 named asked holds.1, holds.2)
   unbuilt Memory holds = tt
   unbuilt fault holds = absurd holds
 
   -- so is why it wasn't kept
-  pub unkept : (fault : Fault) → IsShelfFault fault → HasNoBuild profile text number fault
+  pub unkept : (fault : ProgramFault) → IsShelfFault fault → HasNoBuild profile text number fault
   unkept = of_shelf_fault (HasNoBuild profile text number) tt (set, named, nodes, asked, size)
 
   module _ (c : ShelfChange) (mid : ShelfState) where
     -- after the file was made, which changed no file
-    pub building_holds : SameFiles c.before.has mid.has → (fault : Fault)
+    pub building_holds : SameFiles c.before.has mid.has → (fault : ProgramFault)
         → LeavesFiles (record c { before = mid }) (IsUnbuilt (family_of set profile) nodes) fault → IsBuildFault c profile text number fault
     building_holds same fault holds = (
       elim holds.0 [ inl h ↦ unbuilt fault h | inr h ↦ unkept fault h ],
@@ -67,8 +67,9 @@ module _ (profile : Profile) (text : List ℕ) (set : PieceSet) (named : text �
 
 -- the lines of the built table go with its file
 pub built_fills : {X : Type 0} (family : Family) (nodes : ℕ) (built : Built) → HaveBuilt family nodes built → {lines : List ℕ}
-    → lines ≡ class_lines built.table.values → (filled : Result (String X) Fault) (c : Change)
-    → FillsSink (AreThese lines (bytes_of built.table)) (IsWritingFault built.table) filled c → FillsSink (AreBuilt family nodes) (IsUnbuilt family nodes) filled c
+    → lines ≡ class_lines built.table.values → (filled : Result (String X) ProgramFault) (c : Change)
+    → FillsSink (AreThese lines (bytes_of built.table)) (IsWritingFault built.table) filled c
+    → FillsSink (AreBuilt family nodes) (IsUnbuilt family nodes) filled c
 built_fills family nodes built is told (Ok text) c fills = record {
   whole = let put = fills.whole in (put.0, (built, is, put.1.0 ∙ told, put.1.1), put.2);
   fault = tt;
@@ -76,7 +77,7 @@ built_fills family nodes built is told (Ok text) c fills = record {
 }
 built_fills family nodes built is told (Err fault) c fills = record { whole = tt; fault = unwritten fault fills.fault; failed = fills.failed }
   where
-    unwritten : (fault : Fault) → IsWritingFault built.table fault → IsUnbuilt family nodes fault
+    unwritten : (fault : ProgramFault) → IsWritingFault built.table fault → IsUnbuilt family nodes fault
     unwritten (File f) holds = (built, is, holds)
     unwritten fault holds = absurd holds
 
@@ -89,7 +90,7 @@ refused_number asked number is outside family =
     subst (λ (o : Option ℕ). (nodes : ℕ) × AreNodes o nodes × IsRunFault family nodes Nodes) (sym is) (number, refl, (outside, tt, tt))
 
 -- what a crew that was run gives
-pub built_or_not : (family : Family) (nodes : ℕ) (result : Result Built RunFault) → Builds always_yes family nodes 256 64 result →
+pub built_or_not : (family : Family) (nodes : ℕ) (result : Result Built BuildFault) → Builds always_yes family nodes 256 64 result →
     MatchResult result (HaveBuilt family nodes) (IsRunFault family nodes)
 built_or_not family nodes (Ok built) builds = (builds.built, builds.crew)
 built_or_not family nodes (Err fault) builds = (builds.fault, builds.unheld (λ node no. absurd (cc)), builds.stopped)

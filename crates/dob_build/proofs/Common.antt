@@ -7,4 +7,4 @@ pub use Rattle.dob_dbfile.specs.Format.{bytes_of}
 pub use Rattle.dob_device.specs.Sinks.{Change}
 pub use Rattle.dob_shelf.proofs.Shelves.{others_kept, unchanged}
 pub use Rattle.dob_shelf.specs.Shelves.{HasJust, SameFiles, ShelfChange, ShelfState, shelf_change}
-pub use Rattle.dob_files.specs.declared.fault.Fault.{Fault}
+pub use Rattle.dob_files.specs.declared.fault.ProgramFault.{ProgramFault}

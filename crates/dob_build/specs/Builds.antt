@@ -15,10 +15,10 @@ use Rattle.dob_run.specs.BuildEnd.{IsFailureOf}
 use Rattle.dob_run.specs.CrewStops.{StopsSo, IsUnheld}
 use Rattle.dob_runner.specs.Runners.{says_no}
 use Rattle.dob_runner.specs.TurnLoop.{until_halted}
-use Rattle.dob_stops.specs.declared.fault.Fault.{Fault as RunFault}
+use Rattle.dob_share.specs.declared.build_fault.BuildFault.{BuildFault}
 use Rattle.dob_dbfile.specs.Format.{bytes_of}
-use Rattle.dob_files.specs.declared.fault.Fault.{Fault}
-use Rattle.dob_files.specs.declared.fault.Fault.TheVariants.{SetText, Run, File, Memory, Io}
+use Rattle.dob_files.specs.declared.fault.ProgramFault.{ProgramFault}
+use Rattle.dob_files.specs.declared.fault.ProgramFault.TheVariants.{SetText, Run, File, Memory, Io}
 use Rattle.dob_shelf.specs.Shelves.{HasJust, SameFiles, SameOthers, ShelfChange}
 use Rattle.dob_files.specs.Keeping.{IsWritingFault}
 use Rattle.dob_lines.specs.Tallies.{class_lines}
@@ -60,7 +60,7 @@ pub record AreBuildLines (c : ShelfChange) (profile : Profile) (text : List ℕ)
 
 -- why the run of the family by so many nodes, with batches of 256 and inboxes of 64, left no table: it was refused, or a crew of these that asked such a gate
 -- stopped, and the node that is named is the one that failed, for that cause
-abbrev pub IsRunFault : Family → ℕ → RunFault → Type 0
+abbrev pub IsRunFault : Family → ℕ → BuildFault → Type 0
 IsRunFault family nodes fault = HasBuildFault nodes 256 64 fault × IsUnheld fault × StopsSo IsFailureOf (says_no always_yes) until_halted family nodes 256 64 fault
 
 -- nodes built a table of the family, whose lines and file these are
@@ -69,7 +69,7 @@ AreBuilt family nodes lines bytes =
     (built : Built) × HaveBuilt family nodes built × (lines ≡ class_lines built.table.values) × (bytes ≡ bytes_of built.table)
 
 -- why no file of the family's table is filled: the run by so many nodes left none, or what it left isn't written, or memory was refused
-abbrev pub IsUnbuilt : Family → ℕ → Fault → Type 0
+abbrev pub IsUnbuilt : Family → ℕ → ProgramFault → Type 0
 IsUnbuilt family nodes (Run fault) = IsRunFault family nodes fault
 IsUnbuilt family nodes (File fault) =
     (built : Built) × HaveBuilt family nodes built × IsWritingFault built.table (File fault)
@@ -78,7 +78,7 @@ IsUnbuilt family nodes _ = ⊥
 
 -- Why nothing is built: no set has the text; or the run by so many nodes was refused or stopped; or, where the set and the number of nodes are right,
 -- the file couldn't be made or kept; or the table is there and couldn't be written; or memory was refused.
-abbrev pub HasNoBuild : Profile → List ℕ → Option ℕ → Fault → Type 0
+abbrev pub HasNoBuild : Profile → List ℕ → Option ℕ → ProgramFault → Type 0
 HasNoBuild profile text number SetText = (set : PieceSet) → text ≢ set_text set
 HasNoBuild profile text number (Run fault) =
     (set : PieceSet) × (text ≡ set_text set) × (nodes : ℕ) × AreNodes number nodes × IsRunFault (family_of set profile) nodes fault
@@ -88,7 +88,7 @@ HasNoBuild profile text number Memory = Unit {0}
 HasNoBuild profile text number _ = ⊥
 
 -- the fault of building; each file has what it had
-abbrev pub IsBuildFault : ShelfChange → Profile → List ℕ → Option ℕ → Fault → Type 0
+abbrev pub IsBuildFault : ShelfChange → Profile → List ℕ → Option ℕ → ProgramFault → Type 0
 IsBuildFault c profile text number fault = HasNoBuild profile text number fault × SameFiles c.before.has c.after.has
 
 -- What is owed for a file of the table of the piece set that a text names, by the rules of a profile, built by so many nodes where a number is given. Where

@@ -8,7 +8,6 @@ use Rattle.std.proofs.lemmas.Bool.{ltb-false}
 use Rattle.dob_certfile.specs.Numbers.{leb128, leb128_limit}
 
 -- ---- bytes that are the same
-
 pub same_is : (xs ys : List ℕ) → bytes_eq xs ys ≡ true → xs ≡ ys
 same_is xs ys = (bytes_eq-Decides xs ys).0
 
@@ -19,7 +18,6 @@ pub not_same : (xs ys : List ℕ) → (xs ≡ ys → ⊥) → bytes_eq xs ys ≡
 not_same xs ys other = search (rules, same_is)
 
 -- ---- steps of reading
-
 abbrev pub IsBytes : List ℕ → Type 0
 IsBytes bytes = (i : ℕ) → get_or bytes i 0 < 256
 
@@ -62,7 +60,6 @@ byte_takes (b ∷ bytes) x fits e =
     (record { parts = refl; rest_fits = rest_fits b bytes fits }, fits 0)
 
 -- ---- numbers in the fewest bytes
-
 abbrev step : ℕ → ℕ × List ℕ → Result (ℕ × List ℕ) Defect
 step low high = cond (eqb high.0 0) (Err EntryNumber) (Ok (low - 128 + 128 * high.0, high.1))
 
@@ -114,7 +111,6 @@ number_again zero number rest fits = let is : ltb number 128 ≡ true = lt-ltb n
 number_again (suc more) number rest fits = grind (arith, (number_again more (number / 128) rest (omega (arith, fits))))
 
 -- ---- one byte more of a number that is read
-
 pub number_err : (more : ℕ) (bytes : List ℕ) (d : Defect) → byte_at bytes ≡ Err d → number_at more bytes ≡ Err d
 unfolding number_at
 number_err zero bytes d e = rw e refl
@@ -144,7 +140,6 @@ module _ (more : ℕ) (bytes : List ℕ) (low : ℕ) (rest : List ℕ) (e : byte
   number_more high after h above = grind arith
 
 -- ---- how large they are
-
 pub low_room : (more number : ℕ) → number < 128 → number < leb128_limit more
 low_room zero number small = small
 low_room (suc more) number small = omega (arith, low_room more number small)
@@ -158,7 +153,6 @@ limit_small (suc (suc (suc (suc (suc more))))) few = absurd (omega (arith, few))
 limit_small _ few = omega arith
 
 -- ---- one byte more of a number that is written
-
 pub leb_low : (more number : ℕ) → number < 128 → leb128 more number ≡ number ∷ []
 unfolding leb128
 leb_low zero number small = refl

@@ -14,7 +14,6 @@ use Rattle.dob_certfile.proofs.Lists.{entries_take, entries_again, rise_fit, ris
 use Rattle.dob_certfile.proofs.Fronts.{FitsFront, front_text, front_takes, front_again}
 
 -- ---- the digest
-
 seal_takes : (bytes rest : List ℕ) (done : Unit {0}) → seal_at bytes rest ≡ Ok done → (length rest ≡ 32) × (rest ≡ sha256 (take (length bytes - 32) bytes))
 unfolding seal_at
 seal_takes bytes rest done e = grind (arith, same_is)
@@ -45,7 +44,6 @@ unfolding seal_at
 seal_wrong bytes rest digest n at is low high other = grind (arith, not_same)
 
 -- ---- the whole file
-
 abbrev filed : FrontContent → List Entry → List Entry → Content
 filed f lost held = record { family = f.family; root = f.root; claim = f.claim; lost = lost; held = held }
 
@@ -56,7 +54,6 @@ unfolding contents_of
 joined c rest = grind arith
 
 -- ---- reading again
-
 pub few_entries : (kind : ListKind) (classes : ℕ) (entries : List Entry) → FitEntries kind classes entries → length entries ≤ classes
 few_entries kind classes entries fits = omega (arith, rise_count kind classes 0 entries (fit_rises kind classes 0 entries fits (starts_anywhere entries)) (omega arith))
 
@@ -117,7 +114,6 @@ file_takes bytes c fits e =
     subst (λ (d : Content). Fits d × (bytes ≡ bytes_of d)) (ok_is made c s.2) (right, whole)
 
 -- ---- what is written, piece by piece
-
 pub pieces : (c : Content) (lost held : List Entry) (old n1 n2 n3 n4 n5 : List ℕ) → lost ≡ c.lost → held ≡ c.held → n1 ≡ old ++ head_bytes c
     → n2 ≡ n1 ++ little_bytes 4 (length lost) → n3 ≡ n2 ++ little_bytes 4 (length held) → n4 ≡ n3 ++ entries_bytes 0 lost → n5 ≡ n4 ++ entries_bytes 0 held
     → n5 ≡ old ++ contents_of c
@@ -133,7 +129,6 @@ pieces c lost held old n1 n2 n3 n4 n5 is_lost is_held e1 e2 e3 e4 e5 =
     ∙ ap (λ (xs : List Entry). old ++ (a ++ (b c.lost ++ (b xs ++ (d c.lost ++ d xs))))) is_held
 
 -- ---- what a reader says of the bytes
-
 pub is_found : (bytes : List ℕ) (r : Result CertificateFile ReadFault) → IsBytes bytes → MayGive content r (file_at bytes) → IfOk r (λ file. Fits (content file) × (bytes ≡ bytes_of (content file)))
 is_found bytes (Ok file) fits given = file_takes bytes (content file) fits given
 is_found bytes (Err e) fits given = tt

@@ -24,7 +24,6 @@ of_four P each (a ∷ b ∷ c ∷ d ∷ []) long = each a b c d
 of_four P each _ long = absurd (omega (arith, long))
 
 -- ---- the set
-
 few_ok : (n : ℕ) (x : (m : ℕ) × (m ≤ 2)) → few_at n ≡ Ok x → x.0 ≡ n
 few_ok (suc (suc (suc n))) x e = absurd cc
 few_ok _ x e = sym (ap (λ (p : (m : ℕ) × (m ≤ 2)). p.0) (ok_is _ x e))
@@ -94,7 +93,6 @@ set_none bytes long =
     of_four (λ xs. ((set : PieceSet) → xs ≢ set_bytes set) → Err SetByte ≡ set_at xs) (λ a b c d none. sym (none_of_cells a b c d none)) bytes long
 
 -- ---- the profile, the claim, words
-
 profile_takes : (byte : ℕ) (profile : Profile) → profile_at byte ≡ Ok profile → byte ≡ profile_number profile
 profile_takes zero profile e = ap profile_number (ok_is A profile e)
 profile_takes (suc zero) profile e = ap profile_number (ok_is B profile e)
@@ -134,7 +132,6 @@ word_back bytes long =
     (λ a b c d fits. sym (cells_back a b c d (fits 0) (fits 1) (fits 2) (fits 3))) bytes long
 
 -- ---- parts
-
 part_long : (place count : ℕ) (bytes : List ℕ) → place + count ≤ length bytes → length (part place count bytes) ≡ count
 part_long place count bytes within = length-take-le count (drop place bytes) (omega (arith, within, length-drop place bytes))
 
@@ -164,7 +161,6 @@ two_cells place bytes within =
     ap (take 2) (drop_more bytes place 0 (omega (arith, within)) ∙ ap (λ (rest : List ℕ). get_or bytes place 0 ∷ rest) (drop_more bytes (place + 1) 0 within))
 
 -- ---- the whole front
-
 abbrev pub front_text : FrontContent → List ℕ → List ℕ
 front_text f rest = certificate_title ++ 1 ∷ (set_bytes f.family.set ++ profile_number f.family.profile ∷ (little_bytes 4 f.root ++ (claim_bytes f.claim
     ++ (little_bytes 4 f.lost_count ++ (little_bytes 4 f.held_count ++ rest)))))
@@ -228,7 +224,6 @@ front_takes bytes f fits e =
     subst (λ (g : FrontContent). (bytes ≡ front_text g (drop 28 bytes)) × FitsFront g) (ok_is (front_made bytes family c.0) f h.1) (parts, right)
 
 -- ---- the front of what was written
-
 family_again : (bytes : List ℕ) (family : Family) → NamesFamily bytes family → family_at bytes ≡ Ok family
 unfolding family_at
 family_again bytes family named = grind (arith, is_same, set_again, profile_again)

@@ -7,7 +7,6 @@ use Rattle.dob_certfile.specs.Numbers.{number_bytes}
 use Rattle.dob_certfile.proofs.Fields.{IsBytes, bind_ok, wants_ok, ok_is, Takes, Takes-then, byte_takes, number_takes, number_again}
 
 -- ---- plies
-
 plies_fit : (kind : ListKind) (byte plies : ℕ) → plies_at kind byte ≡ Ok plies → FitsPlies kind plies
 plies_fit Lost byte plies read = grind arith
 plies_fit Held byte plies read = grind arith
@@ -21,7 +20,6 @@ plies_again Lost plies fits = grind arith
 plies_again Held plies fits = grind arith
 
 -- ---- one entry
-
 abbrev made : ℕ → ℕ → ℕ → List ℕ → Entry × List ℕ
 made least number plies rest = (record { class = least + number - 1; plies = plies }, rest)
 
@@ -176,7 +174,6 @@ unfolding entries_at
 is_done kind classes least front count i bytes total le so_far = search rules
 
 -- ---- as a loop writes them
-
 starts_after : (entries : List Entry) (i : ℕ) (d : Entry) → AreAscending entries → i < length entries → StartsFrom ((get_or entries i d).class + 1) (drop (suc i) entries)
 starts_after [] i d ascending lt = absurd (omega (arith, lt))
 starts_after (entry ∷ entries) zero d ascending lt = tail_starts entry entries ascending

@@ -32,7 +32,6 @@ wants true defect = Ok tt
 wants false defect = Err defect
 
 -- ---- what a function returned, seen by view, is what reading gives ..
-
 abbrev pub Gives : {X Y : Type 0} → (X → Y) → Result X Defect → Result Y Defect → Type 0
 Gives view (Ok x) read = read ≡ Ok (view x)
 Gives view (Err e) read = read ≡ Err e
@@ -47,7 +46,6 @@ MayGive view (Ok x) read = read ≡ Ok (view x)
 MayGive view (Err e) read = Fails e read
 
 -- ---- fields: each is a value, and the bytes after it
-
 abbrev pub byte_at : List ℕ → Result (ℕ × List ℕ) Defect
 byte_at [] = Err Truncated
 byte_at (byte ∷ bytes) = Ok (byte, bytes)

@@ -49,7 +49,6 @@ fn set_of(bytes: &[u8]) -> Result<PieceSet, Defect>
     }
 }
 
-// The profile of that number.
 fn profile_at(byte: u8) -> Result<Profile, Defect>
     ensures { result ≡ profile_at byte }
 {

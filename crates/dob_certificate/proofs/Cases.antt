@@ -12,7 +12,6 @@ use Rattle.dob_certificate.specs.Walks.{AllLead, SomeLeads}
 use Rattle.std.specs.Prelude.{MatchBool, MatchOption}
 
 -- ---- answers
-
 pub said_no : {P : Type 0} → ¬ P → IsTrue false ↔ P
 said_no isnt = (λ shown. absurd (cc), λ p. absurd (isnt p))
 

@@ -1,6 +1,6 @@
 -- The moves of a position gone through one by one: what one of them leads to, and what all do.
-use Rattle.dob_certificate.proofs.Common.{◌+◌, ◌<◌, ◌∙◌, ◌≡◌, ◌≤◌, Bool, List, Option, Some, ap, arith, get_or, length, refl, slice_get, subst, sym, ℕ}
-use Rattle.dob_certificate.proofs.Common.{slice_get-get_or, slice_get_read, Profile, Setup, AreMoves, HasStatus, Open}
+use Rattle.dob_certificate.proofs.Common.{◌+◌, ◌<◌, ◌∙◌, ◌≡◌, ◌≤◌, Bool, List, Option, Some, ap, arith, length, slice_get, subst, sym, ℕ}
+use Rattle.dob_certificate.proofs.Common.{slice_get-get_or, Profile, Setup, AreMoves, HasStatus, Open}
 use borrow.Author.Count.{below_more}
 use Rattle.dob_moves.specs.declared.game_move.Move.{Move}
 use Rattle.dob_moves.specs.Moves.{Goes}
@@ -18,13 +18,13 @@ module _ (profile : Profile) (p : Setup) (legal : List Move) where
     one_leads goes = record { move = move; outcome = outcome; goes = goes; fits = subst (λ (b : Bool). Told b outcome) same is }
 
     -- one more of them does
-    pub more_lead : (index : ℕ) → index < length legal → move ≡ get_or legal index move → ((q : Setup) → Goes profile p move q → outcome ≡ q) →
+    pub more_lead : (index : ℕ) → slice_get legal index ≡ Some move → ((q : Setup) → Goes profile p move q → outcome ≡ q) →
         ((k : ℕ) → k < index → LeadsAt (Told wanted) k) → (k : ℕ) → k < index + 1 → LeadsAt (Told wanted) k
-    more_lead index within read alone before = below_more (LeadsAt (Told wanted)) index before here
+    more_lead index read alone before = below_more (LeadsAt (Told wanted)) index before here
       where
         here : LeadsAt (Told wanted) index
         here other q there goes =
-            let one : Some other ≡ Some move = sym there ∙ slice_get_read legal (length legal) index move refl within read in
+            let one : Some other ≡ Some move = sym there ∙ read in
             let same_move : other ≡ move = grind (arith, one) in
             subst (Told wanted) (alone q (subst (λ (m : Move). Goes profile p m q) same_move goes)) (subst (λ (b : Bool). Told b outcome) same is)
 

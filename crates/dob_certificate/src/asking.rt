@@ -1,7 +1,9 @@
 // What a list of either kind is asked of a position: whether it takes it for lost, by what it says; for won, by a reply; for lost, whatever is played.
 ghost use Rattle.std.specs.Prelude.{◌≡◌, ◌≤◌, ◌<◌, ◌↔◌, true, false, length, IsTrue, MatchBool};
 ghost use Rattle.dob_moves.specs.declared.position_status.Status.{Status};
-ghost use Rattle.dob_moves.specs.Statuses.{AreMoves, HasStatus};
+ghost use Rattle.dob_moves.specs.MoveWalks.{IsWalk};
+ghost use Rattle.dob_moves.specs.Shown.{setup_on};
+ghost use Rattle.dob_moves.specs.Statuses.{HasStatus};
 ghost use Rattle.dob_rank.specs.Families.{IsPositionOf};
 ghost use Rattle.dob_certificate.specs.Ascending.{listed_entry};
 ghost use Rattle.dob_certificate.specs.Asked.{FindsLost, FindsWon, TakesForLost, plies_later};
@@ -13,9 +15,9 @@ ghost use Rattle.dob_certificate.specs.Walks.{AllLead, SomeLeads};
 use crate::entry::EVER;
 use crate::list_kind::ListKind;
 use crate::lookup::Lookup;
-use dob_moves::{Move, MoveList, Status, legal_moves, moves_into, status};
-use dob_pieces::{Family, Position};
-use dob_value::outcome_of;
+use dob_moves::{PositionBoard, Status, Walk};
+use dob_pieces::Family;
+use dob_value::outcome_at;
 
 /// Whether a list of that kind shows a position to be lost within `plies`: by a lost list it is lost, by a held list it isn't shown not to be.
 #[derive(Clone, Copy)]
@@ -25,12 +27,12 @@ pub(crate) struct LossQuestion {
 }
 
 /// The fewest plies within which the list says that the position is lost, or that shows at once; `None` if it isn't said.
-pub fn said_lost<L: Lookup>(family: Family, lost: &L, position: &Position) -> Option<u16>
+pub fn said_lost<L: Lookup>(family: Family, lost: &L, position: &PositionBoard) -> Option<u16>
     requires list { L.stands lost.now family }
-    requires member { IsPositionOf family position.now.setup }
-    ensures { SaysLost family (L.entries_of lost.now) position.now.setup result }
+    requires member { IsPositionOf family (setup_on position.now.board) }
+    ensures { SaysLost family (L.entries_of lost.now) (setup_on position.now.board) result }
 {
-    match status(family.profile, position) {
+    match position.status(family.profile) {
         Status::Caught => None,
         Status::Tried | Status::Stuck => Some(0),
         Status::Open => lost.plies_for(family, position),
@@ -42,11 +44,11 @@ pub(crate) fn is_said_lost<L: Lookup>(
     family: Family,
     lost: &L,
     plies: u16,
-    position: &Position,
+    position: &PositionBoard,
 ) -> bool
     requires list { L.stands lost.now family }
-    requires member { IsPositionOf family position.now.setup }
-    ensures { IsTrue result ↔ IsSaidLost family (L.entries_of lost.now) plies position.now.setup }
+    requires member { IsPositionOf family (setup_on position.now.board) }
+    ensures { IsTrue result ↔ IsSaidLost family (L.entries_of lost.now) plies (setup_on position.now.board) }
 {
     match said_lost(family, lost, position) {
         Some(fewest) => fewest <= plies,
@@ -59,13 +61,13 @@ pub(crate) fn is_said_held<L: Lookup>(
     family: Family,
     held: &L,
     plies: u16,
-    position: &Position,
+    position: &PositionBoard,
 ) -> bool
     requires list { L.stands held.now family }
-    requires member { IsPositionOf family position.now.setup }
-    ensures { IsTrue result ↔ IsSaidHeld family (L.entries_of held.now) plies position.now.setup }
+    requires member { IsPositionOf family (setup_on position.now.board) }
+    ensures { IsTrue result ↔ IsSaidHeld family (L.entries_of held.now) plies (setup_on position.now.board) }
 {
-    match status(family.profile, position) {
+    match position.status(family.profile) {
         Status::Caught => true,
         Status::Tried | Status::Stuck => false,
         Status::Open => plies <= 1 || is_listed_beyond(family, held, plies, position),
@@ -73,10 +75,15 @@ pub(crate) fn is_said_held<L: Lookup>(
 }
 
 // Whether the list has the position's class with at least `plies`.
-fn is_listed_beyond<L: Lookup>(family: Family, held: &L, plies: u16, position: &Position) -> bool
+fn is_listed_beyond<L: Lookup>(
+    family: Family,
+    held: &L,
+    plies: u16,
+    position: &PositionBoard,
+) -> bool
     requires list { L.stands held.now family }
-    requires member { IsPositionOf family position.now.setup }
-    ensures { IsTrue result ↔ IsListedBeyond family (L.entries_of held.now) plies position.now.setup }
+    requires member { IsPositionOf family (setup_on position.now.board) }
+    ensures { IsTrue result ↔ IsListedBeyond family (L.entries_of held.now) plies (setup_on position.now.board) }
 {
     match held.plies_for(family, position) {
         Some(found) => plies <= found,
@@ -89,11 +96,11 @@ fn takes_for_lost<L: Lookup>(
     family: Family,
     list: &L,
     question: LossQuestion,
-    position: &Position,
+    position: &PositionBoard,
 ) -> bool
     requires list { L.stands list.now family }
-    requires member { IsPositionOf family position.now.setup }
-    ensures { TakesForLost question.kind family (L.entries_of list.now) question.plies result position.now.setup }
+    requires member { IsPositionOf family (setup_on position.now.board) }
+    ensures { TakesForLost question.kind family (L.entries_of list.now) question.plies result (setup_on position.now.board) }
 {
     match question.kind {
         ListKind::Lost => is_said_lost(family, list, question.plies, position),
@@ -106,44 +113,44 @@ fn has_reply<L: Lookup>(
     family: Family,
     list: &L,
     question: LossQuestion,
-    position: &Position,
-    replies: &[Move],
+    position: &PositionBoard,
+    replies: &Walk,
 ) -> bool
     requires list { L.stands list.now family }
-    requires member { IsPositionOf family position.now.setup }
-    requires goes_on { HasStatus family.profile position.now.setup Status.Open }
-    requires replies { AreMoves family.profile position.now.setup replies.now }
+    requires member { IsPositionOf family (setup_on position.now.board) }
+    requires goes_on { HasStatus family.profile (setup_on position.now.board) Status.Open }
+    requires replies { IsWalk family.profile (setup_on position.now.board) replies.now }
     ensures { MatchBool result
-        (SomeLeads family.profile position.now.setup (TakesForLost question.kind family (L.entries_of list.now) question.plies true))
-        (AllLead family.profile position.now.setup (TakesForLost question.kind family (L.entries_of list.now) question.plies false)) }
+        (SomeLeads family.profile (setup_on position.now.board) (TakesForLost question.kind family (L.entries_of list.now) question.plies true))
+        (AllLead family.profile (setup_on position.now.board) (TakesForLost question.kind family (L.entries_of list.now) question.plies false)) }
 {
-    for reply in replies {
-        let outcome = outcome_of(family, position, *reply);
-        if takes_for_lost(family, list, question, &outcome) {
+    for place in 0..replies.len() {
+        let reply = outcome_at(family, replies, place);
+        if takes_for_lost(family, list, question, &reply.position) {
             return true;
         }
     }
     false
 }
 
-/// Whether the list shows the position to be won: the side to move catches the lion, or some move leads to what it takes for lost. The replies are
-/// those of any position before, and of this one behind.
+/// Whether the list shows the position to be won: the side to move catches the lion, or some move leads to what it takes for lost. The walk over
+/// the replies is room for them.
 pub(crate) fn finds_won<L: Lookup>(
-    replies: &mut MoveList,
+    replies: &mut Walk,
     family: Family,
     list: &L,
     question: LossQuestion,
-    position: &Position,
+    position: &PositionBoard,
 ) -> bool
     requires list { L.stands list.now family }
-    requires member { IsPositionOf family position.now.setup }
-    ensures { FindsWon question.kind family (L.entries_of list.now) question.plies result position.now.setup }
+    requires member { IsPositionOf family (setup_on position.now.board) }
+    ensures { FindsWon question.kind family (L.entries_of list.now) question.plies result (setup_on position.now.board) }
 {
-    let status = moves_into(family.profile, replies, position);
+    let status = replies.start(family.profile, position);
     match status {
         Status::Caught => true,
         Status::Tried | Status::Stuck => false,
-        Status::Open => has_reply(family, list, question, position, replies.as_slice()),
+        Status::Open => has_reply(family, list, question, position, replies),
     }
 }
 
@@ -152,21 +159,21 @@ fn are_all_answered<L: Lookup>(
     family: Family,
     list: &L,
     question: LossQuestion,
-    position: &Position,
-    moves: &[Move],
+    position: &PositionBoard,
+    moves: &Walk,
 ) -> bool
     requires list { L.stands list.now family }
-    requires member { IsPositionOf family position.now.setup }
-    requires goes_on { HasStatus family.profile position.now.setup Status.Open }
-    requires moves { AreMoves family.profile position.now.setup moves.now }
+    requires member { IsPositionOf family (setup_on position.now.board) }
+    requires goes_on { HasStatus family.profile (setup_on position.now.board) Status.Open }
+    requires moves { IsWalk family.profile (setup_on position.now.board) moves.now }
     ensures { MatchBool result
-        (AllLead family.profile position.now.setup (FindsWon question.kind family (L.entries_of list.now) question.plies true))
-        (SomeLeads family.profile position.now.setup (FindsWon question.kind family (L.entries_of list.now) question.plies false)) }
+        (AllLead family.profile (setup_on position.now.board) (FindsWon question.kind family (L.entries_of list.now) question.plies true))
+        (SomeLeads family.profile (setup_on position.now.board) (FindsWon question.kind family (L.entries_of list.now) question.plies false)) }
 {
-    let mut replies = MoveList::new();
-    for played in moves {
-        let outcome = outcome_of(family, position, *played);
-        if !finds_won(&mut replies, family, list, question, &outcome) {
+    let mut replies = Walk::new();
+    for place in 0..moves.len() {
+        let outcome = outcome_at(family, moves, place);
+        if !finds_won(&mut replies, family, list, question, &outcome.position) {
             return false;
         }
     }
@@ -194,14 +201,14 @@ fn finds_lost<L: Lookup>(
     family: Family,
     list: &L,
     question: LossQuestion,
-    position: &Position,
+    position: &PositionBoard,
 ) -> bool
     requires list { L.stands list.now family }
-    requires member { IsPositionOf family position.now.setup }
-    ensures { FindsLost question.kind family (L.entries_of list.now) question.plies result position.now.setup }
+    requires member { IsPositionOf family (setup_on position.now.board) }
+    ensures { FindsLost question.kind family (L.entries_of list.now) question.plies result (setup_on position.now.board) }
 {
-    let (status, moves) = legal_moves(family.profile, position);
-    match status {
+    let mut moves = Walk::new();
+    match moves.start(family.profile, position) {
         Status::Caught => false,
         Status::Tried | Status::Stuck => true,
         Status::Open => {
@@ -209,7 +216,7 @@ fn finds_lost<L: Lookup>(
                 false
             } else {
                 let later = two_plies_later(question);
-                are_all_answered(family, list, later, position, moves.as_slice())
+                are_all_answered(family, list, later, position, &moves)
             }
         }
     }
@@ -236,14 +243,19 @@ pub(crate) fn supports_at<L: Lookup>(family: Family, list: &L, kind: ListKind, p
 }
 
 /// Whether the lion can't be caught, and each move leads to a position that is said not to be lost within `plies`.
-pub(crate) fn is_safe<L: Lookup>(family: Family, held: &L, plies: u16, position: &Position) -> bool
+pub(crate) fn is_safe<L: Lookup>(
+    family: Family,
+    held: &L,
+    plies: u16,
+    position: &PositionBoard,
+) -> bool
     requires list { L.stands held.now family }
-    requires member { IsPositionOf family position.now.setup }
-    ensures { IsTrue result ↔ IsSafe family (L.entries_of held.now) plies position.now.setup }
+    requires member { IsPositionOf family (setup_on position.now.board) }
+    ensures { IsTrue result ↔ IsSafe family (L.entries_of held.now) plies (setup_on position.now.board) }
 {
     let question = LossQuestion {
         kind: ListKind::Held,
         plies,
     };
-    !finds_won(&mut MoveList::new(), family, held, question, position)
+    !finds_won(&mut Walk::new(), family, held, question, position)
 }

@@ -1,5 +1,6 @@
 // What a certificate claims of a position, and whether its lists show it.
 ghost use Rattle.std.specs.Prelude.{◌↔◌, IsTrue};
+ghost use Rattle.dob_moves.specs.Shown.{setup_on};
 ghost use Rattle.dob_rank.specs.Families.{IsPositionOf};
 ghost use Rattle.dob_certificate.specs.Claims.{ShowsWon, ShowsLoss, ShowsWin, ShowsDraw, ShowsValue, Show};
 
@@ -7,8 +8,8 @@ use crate::asking::{LossQuestion, finds_won, is_safe, is_said_held, is_said_lost
 use crate::entry::EVER;
 use crate::list_kind::ListKind;
 use crate::lookup::Lookup;
-use dob_moves::MoveList;
-use dob_pieces::{Family, Position};
+use dob_moves::{PositionBoard, Walk};
+use dob_pieces::Family;
 use dob_value::Value;
 
 /// What is claimed of a position: its value, or that the side to move is lost, or has won, within N plies.
@@ -23,12 +24,12 @@ pub enum Claim {
 pub(crate) fn shows_won<L: Lookup>(
     family: Family,
     lost: &L,
-    position: &Position,
+    position: &PositionBoard,
     plies: u16,
 ) -> bool
     requires lost { L.stands lost.now family }
-    requires member { IsPositionOf family position.now.setup }
-    ensures { IsTrue result ↔ ShowsWon family (L.entries_of lost.now) position.now.setup plies }
+    requires member { IsPositionOf family (setup_on position.now.board) }
+    ensures { IsTrue result ↔ ShowsWon family (L.entries_of lost.now) (setup_on position.now.board) plies }
 {
     if plies == 0 {
         return false;
@@ -37,7 +38,7 @@ pub(crate) fn shows_won<L: Lookup>(
         kind: ListKind::Lost,
         plies: plies - 1,
     };
-    finds_won(&mut MoveList::new(), family, lost, question, position)
+    finds_won(&mut Walk::new(), family, lost, question, position)
 }
 
 // Whether the lists show that the position is a loss in `plies` plies.
@@ -45,24 +46,30 @@ fn shows_loss<L: Lookup>(
     family: Family,
     lost: &L,
     held: &L,
-    position: &Position,
+    position: &PositionBoard,
     plies: u16,
 ) -> bool
     requires lost { L.stands lost.now family }
     requires held { L.stands held.now family }
-    requires member { IsPositionOf family position.now.setup }
-    ensures { IsTrue result ↔ ShowsLoss family (L.entries_of lost.now) (L.entries_of held.now) position.now.setup plies }
+    requires member { IsPositionOf family (setup_on position.now.board) }
+    ensures { IsTrue result ↔ ShowsLoss family (L.entries_of lost.now) (L.entries_of held.now) (setup_on position.now.board) plies }
 {
     is_said_lost(family, lost, plies, position)
         && (plies == 0 || is_said_held(family, held, plies - 1, position))
 }
 
 // Whether the lists show that the position is a win in `plies` plies.
-fn shows_win<L: Lookup>(family: Family, lost: &L, held: &L, position: &Position, plies: u16) -> bool
+fn shows_win<L: Lookup>(
+    family: Family,
+    lost: &L,
+    held: &L,
+    position: &PositionBoard,
+    plies: u16,
+) -> bool
     requires lost { L.stands lost.now family }
     requires held { L.stands held.now family }
-    requires member { IsPositionOf family position.now.setup }
-    ensures { IsTrue result ↔ ShowsWin family (L.entries_of lost.now) (L.entries_of held.now) position.now.setup plies }
+    requires member { IsPositionOf family (setup_on position.now.board) }
+    ensures { IsTrue result ↔ ShowsWin family (L.entries_of lost.now) (L.entries_of held.now) (setup_on position.now.board) plies }
 {
     if plies < 2 {
         return shows_won(family, lost, position, plies);
@@ -71,10 +78,10 @@ fn shows_win<L: Lookup>(family: Family, lost: &L, held: &L, position: &Position,
 }
 
 // Whether the list shows that the position is a draw.
-fn shows_draw<L: Lookup>(family: Family, held: &L, position: &Position) -> bool
+fn shows_draw<L: Lookup>(family: Family, held: &L, position: &PositionBoard) -> bool
     requires held { L.stands held.now family }
-    requires member { IsPositionOf family position.now.setup }
-    ensures { IsTrue result ↔ ShowsDraw family (L.entries_of held.now) position.now.setup }
+    requires member { IsPositionOf family (setup_on position.now.board) }
+    ensures { IsTrue result ↔ ShowsDraw family (L.entries_of held.now) (setup_on position.now.board) }
 {
     is_said_held(family, held, EVER, position) && is_safe(family, held, EVER, position)
 }
@@ -84,13 +91,13 @@ fn shows_value<L: Lookup>(
     family: Family,
     lost: &L,
     held: &L,
-    position: &Position,
+    position: &PositionBoard,
     value: Value,
 ) -> bool
     requires lost { L.stands lost.now family }
     requires held { L.stands held.now family }
-    requires member { IsPositionOf family position.now.setup }
-    ensures { IsTrue result ↔ ShowsValue family (L.entries_of lost.now) (L.entries_of held.now) position.now.setup value }
+    requires member { IsPositionOf family (setup_on position.now.board) }
+    ensures { IsTrue result ↔ ShowsValue family (L.entries_of lost.now) (L.entries_of held.now) (setup_on position.now.board) value }
 {
     match value {
         Value::Loss(plies) => shows_loss(family, lost, held, position, plies),
@@ -104,13 +111,13 @@ pub fn is_shown<L: Lookup>(
     family: Family,
     lost: &L,
     held: &L,
-    position: &Position,
+    position: &PositionBoard,
     claim: Claim,
 ) -> bool
     requires lost { L.stands lost.now family }
     requires held { L.stands held.now family }
-    requires member { IsPositionOf family position.now.setup }
-    ensures { IsTrue result ↔ Show family (L.entries_of lost.now) (L.entries_of held.now) position.now.setup claim }
+    requires member { IsPositionOf family (setup_on position.now.board) }
+    ensures { IsTrue result ↔ Show family (L.entries_of lost.now) (L.entries_of held.now) (setup_on position.now.board) claim }
 {
     match claim {
         Claim::Exactly(value) => shows_value(family, lost, held, position, value),

@@ -26,7 +26,7 @@ impl Model for Entries {
 }
 
 impl Entries {
-    /// No entries.
+    /// An empty list.
     pub fn new(alloc: Global) -> Entries
         ensures { result ≡ [] }
     {
@@ -47,7 +47,7 @@ impl Entries {
         }
     }
 
-    /// Entries that ascend.
+    /// A list of these entries, whose classes ascend.
     pub fn from_ascending(entries: Vec<Entry>) -> Entries
         requires { AreAscending entries.items }
         ensures { result ≡ entries.items }
@@ -73,7 +73,6 @@ impl Entries {
     }
 }
 
-// The entry of that class.
 fn find_in(entries: &[Entry], class: u64) -> Option<Entry>
     requires { AreAscending entries.now }
     ensures some { IfSome result (λ entry. Contains entries.now entry × (entry.class ≡ class)) }

@@ -16,6 +16,7 @@ use crate::lists::check_list;
 use crate::lookup::ByClass;
 use crate::refusal::Refusal;
 use dob_classes::Classes;
+use dob_moves::PositionBoard;
 use dob_pieces::Position;
 
 /// Passes the certificate exactly if its lists prove the claim, so only if the claim holds. It reads no table.
@@ -67,7 +68,8 @@ pub fn check_claim(
         classes,
         entries: &certificate.held,
     };
-    if is_shown(classes.family, &lost, &held, position, claim) {
+    let position = PositionBoard::of(position);
+    if is_shown(classes.family, &lost, &held, &position, claim) {
         Ok(())
     } else {
         Err(Refusal::Claim)
@@ -92,7 +94,7 @@ pub fn is_lost_within(
         entries: &certificate.lost,
     };
     supports_all_lost(classes, &certificate.lost)
-        && is_said_lost(classes.family, &lost, plies, position)
+        && is_said_lost(classes.family, &lost, plies, &PositionBoard::of(position))
 }
 
 /// Whether the certificate proves that the side to move can force a win within `plies`: its lost list supports its entries, and
@@ -113,7 +115,7 @@ pub fn is_won_within(
         entries: &certificate.lost,
     };
     supports_all_lost(classes, &certificate.lost)
-        && shows_won(classes.family, &lost, position, plies)
+        && shows_won(classes.family, &lost, &PositionBoard::of(position), plies)
 }
 
 // Whether the list supports each of its entries.

@@ -10,13 +10,13 @@ use Rattle.dob_probe.specs.Faults as by_table
 use Rattle.dob_certificate.specs.declared.entry.Entry.{Entry}
 use Rattle.dob_certificate.specs.declared.refusal.Refusal.{Refusal}
 use Rattle.dob_certificate.specs.Refusals as lists
-use Rattle.dob_certify.specs.declared.fault.Fault.{Fault}
-use Rattle.dob_certify.specs.declared.fault.Fault.TheVariants.{Table, Unproved, TooMany, Memory}
+use Rattle.dob_certify.specs.declared.fault.MakingFault.{MakingFault}
+use Rattle.dob_certify.specs.declared.fault.MakingFault.TheVariants.{Table, Unproved, TooMany, Memory}
 use Rattle.dob_certify.specs.Lists.{HaveMore}
 use Rattle.dob_certify.specs.Made.{claim_of}
 
 -- the fault's number and name
-abbrev pub fault_text : Fault → List ℕ
+abbrev pub fault_text : MakingFault → List ℕ
 fault_text (Table fault) = by_table.fault_text fault
 fault_text (Unproved refusal) = lists.fault_text refusal
 fault_text (TooMany most) = lists.too_many_text most
@@ -39,7 +39,7 @@ pub record IsTooMany (table : ClassTable) (p : Setup) (most number : ℕ) : Type
 
 -- Why nothing is made: the position isn't one of the table's; else lists that were found have more entries than they may; else they don't prove the claim;
 -- or memory ran out.
-abbrev pub IsFault : ClassTable → Bool → Setup → ℕ → Fault → Type 0
+abbrev pub IsFault : ClassTable → Bool → Setup → ℕ → MakingFault → Type 0
 IsFault table is_exact p most (Table fault) = by_table.IsRefusal table.family p fault
 IsFault table is_exact p most (Unproved refusal) = IsUnproved table is_exact p most refusal
 IsFault table is_exact p most (TooMany number) = IsTooMany table p most number

@@ -16,8 +16,8 @@ claim_of (Win plies) is_exact = if is_exact then Exactly (Win plies) else WonWit
 claim_of (Loss plies) is_exact = if is_exact then Exactly (Loss plies) else LostWithin plies
 claim_of Draw is_exact = Exactly Draw
 
--- how often the watch is called while a certificate of that value is made: once for each two plies, as often again where it is to be
--- exact, and once for a draw
+-- how many rounds of the lists of a certificate of that value are reckoned with: one for each two plies, as many again where it is to be exact, and one
+-- for a draw
 abbrev pub rounds_of : Value → Bool → ℕ
 rounds_of (Win plies) is_exact = if is_exact then 2 * (plies / 2) else plies / 2
 rounds_of (Loss plies) is_exact = if is_exact then 2 * (plies / 2) else plies / 2

@@ -1,6 +1,6 @@
 // Why no certificate is made.
 ghost use Rattle.std.specs.Prelude.{◌≡◌, Some};
-ghost use Rattle.dob_certify.specs.declared.fault.Fault.TheVariants as fault;
+ghost use Rattle.dob_certify.specs.declared.fault.MakingFault.TheVariants as fault;
 
 use dob_certificate::{Refusal, TooMany};
 use dob_pieces::Memory;
@@ -10,7 +10,7 @@ use std::fmt;
 
 /// Why no certificate is made.
 #[derive(Clone, Copy, Debug)]
-pub enum Fault {
+pub enum MakingFault {
     /// E7, E26: the position isn't one of the table's.
     Table(dob_probe::Fault),
     /// E30, E31, E23: the lists that were found don't prove what the table says of the position, as where the table isn't right.
@@ -21,53 +21,53 @@ pub enum Fault {
     Memory,
 }
 
-impl fmt::Display for Fault {
+impl fmt::Display for MakingFault {
     ghost use Rattle.dob_certify.specs.Faults.{fault_text};
 
     ghost output = { λ fault. Some (fault_text fault) };
 
     fn fmt<W: fmt::Write>(&self, f: &mut fmt::Formatter<W>) -> fmt::Result {
         match self {
-            Fault::Table(fault) => write!(f, "{fault}"),
-            Fault::Unproved(refusal) => write!(f, "{refusal}"),
-            Fault::TooMany(most) => write!(f, "{}", TooMany { most: *most }),
-            Fault::Memory => write!(f, "{Memory}"),
+            MakingFault::Table(fault) => write!(f, "{fault}"),
+            MakingFault::Unproved(refusal) => write!(f, "{refusal}"),
+            MakingFault::TooMany(most) => write!(f, "{}", TooMany { most: *most }),
+            MakingFault::Memory => write!(f, "{Memory}"),
         }
     }
 }
 
-impl Error for Fault {}
+impl Error for MakingFault {}
 
-impl From<dob_probe::Fault> for Fault {
+impl From<dob_probe::Fault> for MakingFault {
     ghost from_gives = { λ given result. result ≡ fault.Table given };
 
-    fn from(given: dob_probe::Fault) -> Fault {
-        Fault::Table(given)
+    fn from(given: dob_probe::Fault) -> MakingFault {
+        MakingFault::Table(given)
     }
 }
 
-impl From<Refusal> for Fault {
+impl From<Refusal> for MakingFault {
     ghost from_gives = { λ given result. result ≡ fault.Unproved given };
 
-    fn from(given: Refusal) -> Fault {
-        Fault::Unproved(given)
+    fn from(given: Refusal) -> MakingFault {
+        MakingFault::Unproved(given)
     }
 }
 
-impl From<Memory> for Fault {
+impl From<Memory> for MakingFault {
     ghost from_gives = { λ _ result. result ≡ fault.Memory };
 
-    fn from(_lower: Memory) -> Fault {
-        Fault::Memory
+    fn from(_lower: Memory) -> MakingFault {
+        MakingFault::Memory
     }
 }
 
 /// Why a search for a list ends before it is done.
 #[derive(Clone, Copy)]
 pub(crate) enum Stop {
-    /// No memory was left.
+    /// E23: no memory was left for a growth.
     Memory,
-    /// The list has more entries than it may.
+    /// E39: the list would have more entries than it may.
     Full,
 }
 

@@ -27,7 +27,7 @@ const GREATEST: u64 = 1 << 50;
 // For how many distances the costs are kept. Of the last one it is above `GREATEST`.
 const DISTANCES: usize = 64;
 
-// The members so far.
+// A search for a list: its members so far, and the classes that are still to be looked at.
 #[derive(Drop)]
 struct Search<'a> {
     alloc: Global,
@@ -40,12 +40,12 @@ struct Search<'a> {
     // The classes for which the move asks that is looked at, and those for which the cheapest one asks.
     asked: Vec<u32>,
     cheapest: Vec<u32>,
-    // Room for classes.
+    // The classes to which the moves of the class at hand lead, kept so that each look takes the same memory.
     replies: Vec<u32>,
 }
 
 /// The entries of the classes, which by the table aren't lost within `plies`, and those that they need; where they are more than `most`, those that were
-/// found until they were. Where the lion can be caught a class needs no entry, and none needs one within 1 ply. The watch is called for each two plies.
+/// found until they were. Where the lion can be caught a class needs no entry, and none needs one within 1 ply. The watch is called after each round.
 pub(crate) fn held_entries<W: Watch>(
     alloc: Global,
     table: &Table,

@@ -20,6 +20,6 @@ mod members;
 mod outcomes;
 mod replies;
 
-pub use fault::Fault;
+pub use fault::MakingFault;
 pub use making::{Certified, certify, claim_of, rounds_of};
 pub use replies::{Reply, reply_to};

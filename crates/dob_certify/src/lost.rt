@@ -46,7 +46,7 @@ struct Waiting {
     needs: Vec<Need>,
 }
 
-// The members so far.
+// A search for a list: its members so far, and the classes that are still to be looked at.
 #[derive(Drop)]
 struct Search<'a> {
     alloc: Global,
@@ -56,12 +56,12 @@ struct Search<'a> {
     fresh: Vec<u32>,
     // By half the distance for which they wait.
     waiting: Vec<Waiting>,
-    // Room for classes.
+    // The classes to which the moves of the class at hand lead, kept so that each look takes the same memory.
     replies: Vec<u32>,
 }
 
 /// The entry of the class, which by the table is lost in `plies`, and those that it needs; where they are more than `most`, those that were found until they
-/// were. The watch is called for each two plies.
+/// were. The watch is called after each round.
 pub(crate) fn lost_entries<W: Watch>(
     alloc: Global,
     table: &Table,
@@ -84,7 +84,7 @@ pub(crate) fn lost_entries<W: Watch>(
     search.members.entries(alloc, table, ListKind::Lost)
 }
 
-// None waits yet.
+// An empty list for each distance up to twice `half`.
 fn waiting_to(alloc: Global, half: u16) -> Result<Vec<Waiting>, Memory> {
     let mut waiting = Vec::new(alloc);
     for _ in 0..=half {

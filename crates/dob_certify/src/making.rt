@@ -9,12 +9,13 @@ ghost use Rattle.dob_certify.specs.Made.{IsMade, claim_of, rounds_of};
 ghost use Rattle.dob_certify.specs.Lists.{IsByTable};
 ghost use Rattle.dob_certify.specs.Faults.{IsFault};
 
-use crate::fault::Fault;
+use crate::fault::MakingFault;
 use crate::held::held_entries;
 use crate::lost::lost_entries;
 use crate::outcomes::{Listed, list_outcomes, number_of, value_in};
 use dob_certificate::{Certificate, Claim, EVER, Entries, ListKind};
 use dob_check::{Unwatched, Watch, verify_watched};
+use dob_moves::PositionBoard;
 use dob_pieces::{Memory, Position};
 use dob_probe::probe;
 use dob_value::{Table, Value};
@@ -40,8 +41,8 @@ pub fn claim_of(value: Value, is_exact: bool) -> Claim
     }
 }
 
-/// How often the watch of `certify` is called, if the value isn't a draw: once for each two plies, and as often again where it is
-/// to be exact.
+/// How many rounds to reckon with in `certify`: one for each two plies, and as many again where the certificate is to be exact. Its watch is called after each
+/// round that there is; of a draw's nobody knows how many that are, and how often it is called no clause says.
 pub fn rounds_of(value: Value, is_exact: bool) -> u64
     ensures { result ≡ rounds_of value is_exact }
 {
@@ -72,7 +73,7 @@ pub fn certify<R: Threads + Sync, W: Watch>(
     is_exact: bool,
     most: u64,
     watch: &W,
-) -> Result<Certified, Fault>
+) -> Result<Certified, MakingFault>
     ensures made { IfOk result (IsMade table.now is_exact most position.now.setup) }
     ensures holds { IfOk result (λ certified. Holds table.now.family.profile position.now.setup certified.claim) }
     ensures member { OnOk result (IsPositionOf table.now.family position.now.setup) }
@@ -82,7 +83,7 @@ pub fn certify<R: Threads + Sync, W: Watch>(
     let claim = claim_of(value, is_exact);
     let certificate = lists(alloc, table, position, claim, most, watch)?;
     if !are_few(&certificate.lost, &certificate.held, most) {
-        return Err(Fault::TooMany(most));
+        return Err(MakingFault::TooMany(most));
     }
     verify_watched(
         rt,
@@ -108,7 +109,7 @@ fn lists<W: Watch>(
     ensures lost { IfOk result (λ found. All (IsByTable table.now ListKind.Lost) found.lost) }
     ensures held { IfOk result (λ found. All (IsByTable table.now ListKind.Held) found.held) }
 {
-    let class = number_of(table.classes(), position);
+    let class = number_of(table.classes(), &PositionBoard::of(position));
     let lost = lost_list(alloc, table, class, claim, most, watch)?;
     let left = most.saturating_sub(lost.as_slice().len() as u64);
     let held = held_list(alloc, table, class, claim, left, watch)?;

@@ -1,16 +1,17 @@
 // The values of classes by a table, and the classes to which the moves of a class lead.
-ghost use Rattle.dob_moves.specs.Statuses.{AreMoves};
-ghost use Rattle.dob_rank.specs.Families.{IsPositionOf};
+ghost use Rattle.std.specs.Prelude.{◌<◌};
+ghost use Rattle.dob_moves.specs.Shown.{setup_on};
+ghost use Rattle.dob_rank.specs.Families.{IsPositionOf, classes_of};
 
 use dob_classes::Classes;
-use dob_moves::{Move, first_catch, legal_moves};
-use dob_pieces::{Memory, Position};
-use dob_value::{Table, Value, outcome_of};
+use dob_moves::{PositionBoard, Walk};
+use dob_pieces::Memory;
+use dob_value::{Table, Value, class_of, outcome_at, representative_of};
 
 /// Which of the classes to which moves lead are listed.
 #[derive(Clone, Copy)]
 pub(crate) enum Listed {
-    /// All.
+    /// All classes to which moves lead.
     All,
     /// Those whose side to move can't catch the lion.
     Uncaught,
@@ -42,41 +43,39 @@ pub(crate) fn list_outcomes(
     let classes = table.classes();
     let class = class as u64;
     if class < classes.class_count() {
-        let position = classes.class_at(class);
-        let (_, legal) = legal_moves(classes.family.profile, &position);
-        push_outcomes(classes, &position, legal.as_slice(), listed, outcomes)?;
+        push_outcomes(classes, class, listed, outcomes)?;
     }
     outcomes.sort_unstable();
     outcomes.dedup();
     Ok(())
 }
 
-// Appends the classes to which the position's moves lead.
+// Appends the classes to which the moves of the class's representative lead.
 //
 // Error: `Memory`.
 fn push_outcomes(
     classes: &Classes,
-    position: &Position,
-    legal: &[Move],
+    class: u64,
     listed: Listed,
     outcomes: &mut Vec<u32>,
 ) -> Result<(), Memory>
-    requires member { IsPositionOf classes.now.family position.now.setup }
-    requires legal { AreMoves classes.now.family.profile position.now.setup legal.now }
+    requires { class < classes_of classes.now.family }
 {
-    for played in legal {
-        let outcome = outcome_of(classes.family, position, *played);
-        if matches!(listed, Listed::All) || first_catch(&outcome).is_none() {
-            outcomes.push(number_of(classes, &outcome))?;
+    let position = representative_of(classes, class);
+    let mut walk = Walk::new();
+    let _status = walk.start(classes.family.profile, &position);
+    for place in 0..walk.len() {
+        let next = outcome_at(classes.family, &walk, place).position;
+        if matches!(listed, Listed::All) || !next.can_catch() {
+            outcomes.push(number_of(classes, &next))?;
         }
     }
     Ok(())
 }
 
-/// The number of the position's class.
-pub(crate) fn number_of(classes: &Classes, position: &Position) -> u32
-    requires { IsPositionOf classes.now.family position.now.setup }
+pub(crate) fn number_of(classes: &Classes, position: &PositionBoard) -> u32
+    requires { IsPositionOf classes.now.family (setup_on position.now.board) }
 {
     let _count = classes.class_count();
-    classes.class_of(position) as u32
+    class_of(classes, position) as u32
 }

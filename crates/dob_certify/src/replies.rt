@@ -1,15 +1,15 @@
 // The move that a certificate gives.
 ghost use Rattle.std.specs.Prelude.{◌≡◌};
-ghost use Rattle.dob_moves.specs.Statuses.{AreMoves};
+ghost use Rattle.dob_moves.specs.Shown.{setup_on};
 ghost use Rattle.dob_rank.specs.Families.{IsPositionOf};
 ghost use Rattle.dob_certificate.specs.Lost.{SupportsAllLost};
 ghost use Rattle.dob_certify.specs.Replies.{IsReply, IsRight, IsShortest, loss, shorter};
 
 use dob_certificate::{ByClass, Entries, said_lost};
 use dob_classes::Classes;
-use dob_moves::{Move, first_catch, legal_moves};
+use dob_moves::{Move, Outcome, PositionBoard, Walk, first_catch};
 use dob_pieces::Position;
-use dob_value::outcome_of;
+use dob_value::outcome_at;
 
 /// What a list of lost classes says of a position.
 #[derive(Clone, Copy)]
@@ -47,14 +47,14 @@ fn found_reply(classes: &Classes, lost: &Entries, position: &Position) -> Option
     if let Some(played) = first_catch(position) {
         return Some(Reply::Win { played, plies: 0 });
     }
-    let (_, legal) = legal_moves(classes.family.profile, position);
     let list = ByClass {
         classes,
         entries: lost,
     };
-    match shortest(&list, position, legal.as_slice()) {
+    let position = PositionBoard::of(position);
+    match shortest(&list, &position) {
         Some(Lead { played, plies }) => Some(Reply::Win { played, plies }),
-        None => loss(said_lost(classes.family, &list, position)),
+        None => loss(said_lost(classes.family, &list, &position)),
     }
 }
 
@@ -68,18 +68,19 @@ fn loss(plies: Option<u16>) -> Option<Reply>
     }
 }
 
-// The first of the moves to a position that is said to be lost within the fewest plies.
-fn shortest(list: &ByClass, position: &Position, legal: &[Move]) -> Option<Lead>
-    requires member { IsPositionOf list.now.classes.now.family position.now.setup }
-    requires legal { AreMoves list.now.classes.now.family.profile position.now.setup legal.now }
-    ensures { IsShortest list.now.classes.now.family list.now.entries.now position.now.setup result }
+// The first of the position's moves to one that is said to be lost within the fewest plies.
+fn shortest(list: &ByClass, position: &PositionBoard) -> Option<Lead>
+    requires { IsPositionOf list.now.classes.now.family (setup_on position.now.board) }
+    ensures { IsShortest list.now.classes.now.family list.now.entries.now (setup_on position.now.board) result }
 {
     let mut best = None;
     let family = list.classes.family;
-    for played in legal {
-        let outcome = outcome_of(family, position, *played);
-        let found = said_lost(family, list, &outcome);
-        best = shorter(best, *played, found);
+    let mut walk = Walk::new();
+    let _status = walk.start(family.profile, position);
+    for place in 0..walk.len() {
+        let Outcome { played, position } = outcome_at(family, &walk, place);
+        let found = said_lost(family, list, &position);
+        best = shorter(best, played, found);
     }
     best
 }

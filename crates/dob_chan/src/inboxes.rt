@@ -67,7 +67,6 @@ fn open_all(
     Ok(sends)
 }
 
-// The end of the next sender.
 fn open_next(
     inbox: &Arc<Inbox>,
     pass: &mut Pass<Batch, Note>,

@@ -1,5 +1,5 @@
 // How many classes of a table have which value, counted in parts by as many threads as there are processors.
-ghost use Rattle.std.specs.Prelude.{IfOk};
+ghost use Rattle.std.specs.Prelude.{◌<◌, ◌^◌, IfOk, length};
 ghost use Rattle.std.specs.List.{AllZip, range_with_len};
 ghost use Rattle.dob_probe.specs.Slots.{AreSlots};
 ghost use Rattle.dob_probe.specs.Statistics.{AreGroups};
@@ -11,6 +11,7 @@ use dob_probe::{Group, add_slots, groups_of, slots_between};
 use dob_value::Table;
 use rayon::prelude::*;
 use std::alloc::Global;
+use std::snapshot::Snapshot;
 use std::thread::Threads;
 
 // What is counted of each code in a part of the classes.
@@ -30,8 +31,10 @@ pub fn statistics(
     ensures { IfOk result (λ groups. AreGroups table.now.values groups.items) }
 {
     let _family = table.family();
+    // That classes are counted bounds their number.
+    let _count = table.class_count();
     let parts = slots_of_parts(rt, alloc, table)?;
-    let slots = joined_slots(alloc, table, &parts)?;
+    let slots = joined_slots(alloc, Snapshot::of(table), &parts)?;
     groups_of(alloc, &slots)
 }
 
@@ -67,13 +70,13 @@ fn slots_of_part(alloc: Global, table: &Table, place: u64) -> Result<SlotPart, M
 // What is counted of all parts.
 fn joined_slots(
     alloc: Global,
-    table: &Table,
+    table: Snapshot<Table>,
     parts: &[SlotPart],
 ) -> Result<Vec<Option<Group>>, Memory>
-    requires { AllZip (IsPart table.now.values) (range_with_len 0 (part_count table.now.values)) parts.now }
-    ensures { IfOk result (λ slots. AreSlots table.now.values slots.items) }
+    requires few { length table.value.values < 2 ^ 64 }
+    requires parts { AllZip (IsPart table.value.values) (range_with_len 0 (part_count table.value.values)) parts.now }
+    ensures { IfOk result (λ slots. AreSlots table.value.values slots.items) }
 {
-    let _count = table.class_count();
     let mut slots = Vec::new(alloc);
     for place in 0..parts.len() {
         add_slots(&mut slots, &parts[place].slots, place as u64 * PART)?;

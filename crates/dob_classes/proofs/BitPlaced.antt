@@ -1,5 +1,5 @@
 -- Planes with a piece more, as either side sees them.
-use Rattle.dob_classes.proofs.Common.{◌%◌, ◌*◌, ◌+◌, ◌-◌, ◌/◌, ◌<◌, ◌^◌, ◌∙◌, ◌≡◌, ◌≢◌, List, None, ap, arith, length, refl, replicate, rules, set, slice_index_or}
+use Rattle.dob_classes.proofs.Common.{◌%◌, ◌*◌, ◌+◌, ◌/◌, ◌<◌, ◌^◌, ◌∙◌, ◌≡◌, ◌≢◌, List, None, ap, arith, length, refl, replicate, rules, set, slice_index_or}
 use Rattle.dob_classes.proofs.Common.{suc, zero, ℕ, get_or-set_other, length-set, at-turned, Cell, at, setup_of, turned, Hands, Side, Enemy, Mover, Setup}
 use Rattle.dob_classes.proofs.Common.{base_of, cell_of, enemy_squares, order, own_squares, put, Chicks, Elephants, Empty, Giraffes, IsWith, seen_by, seen_hands}
 use Rattle.dob_classes.proofs.Common.{seen_owner, seen_square}
@@ -13,7 +13,6 @@ use Rattle.dob_pieces.specs.Boards.{entry}
 unfoldable use Rattle.dob_pieces.specs.Boards.{planes_of}
 
 -- ---- what a side sees of a change
-
 seen_below : (side : Side) (square : ℕ) → square < 12 → seen_square side square < 12
 seen_below Mover square lt = lt
 seen_below Enemy square lt = omega arith
@@ -36,7 +35,6 @@ seen_long Mover setup twelve = twelve
 seen_long Enemy setup twelve = length-turned setup
 
 -- ---- what the pieces of each layer add
-
 pub lion_entry : (side : Side) (owner : ℕ) → owner < 2 → 1 + 4096 * seen_owner side owner ≡ entry (seen_cell side (cell_of owner 0))
 lion_entry Mover zero lt = refl
 lion_entry Mover (suc zero) lt = refl
@@ -119,7 +117,6 @@ at_least_two (suc zero) h Holds each = absurd (omega arith)
 at_least_two (suc (suc n)) h Holds each = each n
 
 -- ---- the empty board
-
 pub empty_seen : (side : Side) (hands : Hands) → AreSeen side (setup_of (replicate 12 None) hands) 0
 unfolding turned planes_of
 empty_seen Mover hands = refl

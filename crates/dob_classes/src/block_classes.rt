@@ -151,7 +151,6 @@ impl BlockClasses {
         self.runs[run as usize].before
     }
 
-    // The kind of a run.
     fn kind_of(&self, run: u64) -> RunKind
         requires { run < runs_in self.now.family.set self.now.number }
         ensures { result ≡ run_kind (run % LIONS) }
@@ -159,7 +158,6 @@ impl BlockClasses {
         self.runs[run as usize].kind
     }
 
-    /// The digits of a run.
     pub(crate) fn digits_of(&self, run: u64) -> RunDigits
         requires { run < runs_in self.now.family.set self.now.number }
         ensures { run_digits result ≡ digits_of (run_bases self.now.family.set self.now.on_board) run }

@@ -1,9 +1,9 @@
 // How many classes of a family stand before a place, without a table of them: block by block, run by run, and in a run whose lions both stand on column b
-// stretch by stretch. No memory is taken.
+// stretch by stretch, or half of it at once. No memory is taken.
 ghost use Rattle.std.specs.Prelude.{◌≡◌, ◌<◌, ◌≤◌, ◌+◌, ◌%◌};
 ghost use Rattle.dob_rank.specs.Families.{IsPositionOf, IsInClass, is_marked, classes_of, class_number as number_of_class};
 ghost use Rattle.dob_classes.specs.BlockRows.{IsRowOf};
-ghost use Rattle.dob_classes.specs.FamilyRuns.{is_there, local_marks_in};
+ghost use Rattle.dob_classes.specs.FamilyRuns.{is_there, local_marks_in, run_size_in};
 ghost use Rattle.dob_rank.specs.Marks.{marks_below};
 ghost use Rattle.dob_rank.specs.Numbers.{product, block_bases, start_of, rank_of_set};
 ghost use Rattle.dob_rank.specs.Runs.{runs_in, run_size, run_start, run_kind, lion_pairs};
@@ -15,6 +15,7 @@ use crate::rows::Row;
 use crate::spots::count_before;
 use dob_pieces::{Family, Position};
 use dob_rank::block;
+use dob_rank::even_ways::even_ways;
 use dob_rank::runs::{LIONS, RunKind, kind_of};
 use dob_rank::set_ranks::spot_of;
 
@@ -93,8 +94,38 @@ pub fn classes_in_run(family: Family, block: u64, run: u64, place: u64) -> u64
     match kind_of(run % LIONS) {
         RunKind::First => count_before(family, block, run, place),
         RunKind::Later => 0,
-        RunKind::Mixed => classes_in_stretches(family, block, run, place),
+        RunKind::Mixed => classes_in_mixed_run(family, block, run, place),
     }
+}
+
+// The classes before a place of a run whose lions both stand on column b, or before its end.
+fn classes_in_mixed_run(family: Family, block: u64, run: u64, place: u64) -> u64
+    requires block { block < product (block_bases family.set) }
+    requires run { run < runs_in family.set block }
+    requires place { place ≤ run_size family.set block }
+    requires kind { run_kind (run % lion_pairs) ≡ Mixed }
+    ensures { result ≡ marks_below (local_marks_in family block run) (marks_below (is_there family block run) place) }
+{
+    let size = block::run_size_in(family.set, block);
+    if place == size {
+        half_of_run(family, block, run, size)
+    } else {
+        classes_in_stretches(family, block, run, place)
+    }
+}
+
+// All classes of such a run of `size` places: half of its positions and of those that are their own mirror image.
+fn half_of_run(family: Family, block: u64, run: u64, size: u64) -> u64
+    requires block { block < product (block_bases family.set) }
+    requires run { run < runs_in family.set block }
+    requires size { size ≡ run_size family.set block }
+    requires kind { run_kind (run % lion_pairs) ≡ Mixed }
+    ensures { result ≡ marks_below (local_marks_in family block run) (run_size_in family block run) }
+{
+    let all = count_before(family, block, run, size);
+    let on_board = block::numbers_in(family.set, block);
+    let own = even_ways(family.profile, &on_board, run % LIONS);
+    (all + own) / 2
 }
 
 // The classes before a place of a run whose lions both stand on column b, one stretch after another.

@@ -93,19 +93,8 @@ impl Classes {
         }
     }
 
-    /// The number of the class whose representative the position of the family is; `None` if its mirror image is
+    /// The number of the class of the position of the family that the board shows, if that is the class's representative; `None` if its mirror image is
     /// earlier.
-    pub fn class_of_representative(&self, position: &Position) -> Option<u64>
-        requires { IsPositionOf self.now.family position.now.setup }
-        ensures class { MatchOption result (¬ IsFirstOfTwo position.now.setup)
-            (λ class. IsFirstOfTwo position.now.setup × HasClass self.now.family position.now.setup class) }
-        ensures number { IfSome result (λ class. class ≡ class_number self.now.family position.now.setup) }
-        ensures bound { IfSome result (λ class. class < classes_of self.now.family) }
-    {
-        self.class_if_representative(&Board::of(&position.setup))
-    }
-
-    /// The number of the class of the position of the family that the board shows, if that is the class's representative.
     pub fn class_if_representative(&self, board: &Board) -> Option<u64>
         requires { (setup : Setup) × IsShown self.now.family setup board.now }
         ensures class { (setup : Setup) → IsShown self.now.family setup board.now → MatchOption result (¬ IsFirstOfTwo setup)

@@ -20,7 +20,6 @@ pub(crate) struct RunShape {
     pub(crate) digits: RunDigits,
 }
 
-/// The shape of the block's run of that number.
 pub(crate) fn shape_of(set: PieceSet, block: u64, run: u64) -> RunShape
     requires block { block < product (block_bases set) }
     requires run { run < runs_in set block }

@@ -1,8 +1,8 @@
--- The line of a cause, piece after piece.
-use Rattle.dob_cli.proofs.Common.{◌≡◌, List, codes, ℕ}
-use Rattle.std.proofs.Common.{◌++◌}
-use Rattle.dob_shelf.specs.Shelves.{LacksEnd}
+-- A text without control characters, piece after piece.
+use Rattle.dob_cli.proofs.Common.{List, ℕ}
+use Rattle.std.specs.Prelude.{◌≢◌, ◌≤◌}
+use Rattle.std.proofs.lemmas.List.Elements.{All-append}
+use Rattle.dob_cli.specs.Runs.{AddsShown, LacksControls}
 
--- behind the two spaces stands what has no line feed
-abbrev pub IsBegun : List ℕ → Type 0
-IsBegun line = (cause : List ℕ) × LacksEnd cause × (line ≡ codes "  " ++ cause)
+pub lacks_more : (before after : List ℕ) → AddsShown before after → LacksControls before → LacksControls after
+lacks_more before after (more, lacks, is) first = rw is (All-append (λ (b : ℕ). (32 ≤ b) × (b ≢ 127)) before more first lacks)

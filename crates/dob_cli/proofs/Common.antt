@@ -18,4 +18,4 @@ pub use Rattle.dob_files.specs.Endings.{AnswersOver, Ending, TellsOneFault}
 pub use Rattle.dob_files.specs.Owed.{AnswersOwed}
 pub use Rattle.dob_files.specs.Tables.{HasValueFile}
 pub use Rattle.dob_files.specs.Telling.{AnswersLines, PutsAll, PutsText, StopsText, TellsOver}
-pub use Rattle.dob_files.specs.declared.fault.Fault.{Fault}
+pub use Rattle.dob_files.specs.declared.fault.ProgramFault.{ProgramFault}

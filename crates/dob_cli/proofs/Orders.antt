@@ -23,8 +23,8 @@ use Rattle.dob_query.specs.Questions.{probed}
 use Rattle.dob_build.specs.Builds.{build_owed}
 use Rattle.dob_files.proofs.TableFaults.{table_right}
 use Rattle.dob_files.specs.Tables.{IsOpeningFault, IsPositionFault}
-use Rattle.dob_counts.specs.Reaches.{AreReachLinesBy}
-use Rattle.dob_counts.specs.Stats.{AreStatsLines}
+use Rattle.dob_survey.specs.Reaches.{AreReachLinesBy}
+use Rattle.dob_survey.specs.Stats.{AreStatsLines}
 use Rattle.dob_survey.specs.Puzzles.{ArePuzzleLines, IsPuzzlesFault}
 use Rattle.dob_survey.specs.Zugzwangs.{AreZugzwangLines}
 use Rattle.dob_query.proofs.Shown.{show_right}
@@ -48,7 +48,7 @@ module _ (c : ShelfChange) (e : Ending) where
 -- ---- by the words
 
 -- two names that differ aren't one
-differs : (a b : Text) → bytes_eq a b ≡ false → a ≡ b → ⊥
+pub differs : (a b : Text) → bytes_eq a b ≡ false → a ≡ b → ⊥
 differs a b other e = true≢false (sym ((bytes_eq-Decides a b).1 e) ∙ other)
 
 -- the texts of lists of one shape

@@ -1,27 +1,27 @@
 -- From what the program does with what it read to what it owes for the words.
-use Rattle.dob_cli.proofs.Common.{◌∙◌, ◌∷◌, ◌≡◌, Bool, List, [], ap, false, inl, inr, refl, subst, sym, ℕ, Err, Change, IsSame, IsUntouched, Says, SinkState, change}
+use Rattle.dob_cli.proofs.Common.{◌∙◌, ◌∷◌, ◌≡◌, Bool, List, [], ap, false, inl, inr, refl, subst, sym, ℕ, Err, Change, IsSame, IsUntouched, Says, SinkState}
+use Rattle.dob_cli.proofs.Common.{change}
 use Rattle.dob_cli.proofs.Common.{Text, IsReadingOf, meaning_of, Reading, Order, EachLine, Lines, unchanged, ShelfChange, ShelfState, shelf_change}
-use Rattle.dob_cli.proofs.Common.{AnswersOver, Ending, TellsOneFault, AnswersLines, PutsAll, PutsText, StopsText, TellsOver, Fault}
-use Rattle.dob_files.specs.declared.fault.Fault.TheVariants.{Io}
+use Rattle.dob_cli.proofs.Common.{AnswersOver, Ending, TellsOneFault, AnswersLines, PutsAll, PutsText, StopsText, TellsOver, ProgramFault}
+use Rattle.dob_files.specs.declared.fault.ProgramFault.TheVariants.{Io}
 use Rattle.dob_words.specs.declared.command.Reading.TheVariants as reading
 use Rattle.dob_files.specs.Endings.{AnswersHelp, AnswersUsage, AnswersVersion, Tells, TellsMemory, version_line}
 use Rattle.dob_query.specs.QuestionsEach.{AreEachLines, IsEachFault}
-use Rattle.dob_cli.specs.Orders.{AnswersOrder, KeepsFiles, owed_by}
-use Rattle.dob_cli.specs.Runs.{Does, LeavesShelf, Ran, RanAt}
+use Rattle.dob_cli.specs.Orders.{owed_by}
+use Rattle.dob_cli.specs.Runs.{Does, DoesPlaced, LeavesShelf, Ran, RanAt}
 use Rattle.dob_files.specs.Faults.{fault_line, is_io}
 use Rattle.std.proofs.Math.Bool.{or-false}
 use Rattle.dob_cli.proofs.Orders.{order_right}
 use Rattle.std.proofs.Common.{arith, true}
 
 -- ---- the streams are those that they were
-
 untouched_same : (c : Change) → IsUntouched c → IsSame c
 untouched_same c same = rw same refl
 
 said_same : (c : Change) (bytes : List ℕ) → Says c bytes → IsSame c
 said_same c bytes says = grind arith
 
-fault_same : (fault : Fault) (status : ℕ) (c : Change) → TellsOneFault fault status c → IsSame c
+fault_same : (fault : ProgramFault) (status : ℕ) (c : Change) → TellsOneFault fault status c → IsSame c
 fault_same fault status c told = grind (arith, said_same c)
 
 told_same : (text : List ℕ) (e : Ending) → Tells text e → IsSame e.out × IsSame e.err
@@ -41,20 +41,22 @@ put_same c text put = pieces_same c.before c.after put.0 put.1
 stopped_same : (c : Change) (text : List ℕ) → StopsText c text → IsSame c
 stopped_same c text stopped = stopped.4.1.same ∙ put_same (change c.before stopped.2) stopped.0 stopped.3
 
-lines_same : (c : ShelfChange) (AreLines : List (List ℕ) → Bool → List ℕ → Type 0) (Holds : Fault → Type 0) (e : Ending) → AnswersLines c AreLines Holds e
+lines_same : (c : ShelfChange) (AreLines : List (List ℕ) → Bool → List ℕ → Type 0) (Holds : ProgramFault → Type 0) (e : Ending)
+    → AnswersLines c AreLines Holds e
     → IsSame e.out × IsSame e.err
 lines_same c AreLines Holds e (inl (r, told, status, silent)) = (put_same e.out told.0.text told.0.told, untouched_same e.err silent)
 lines_same c AreLines Holds e (inr (f, told, line)) = (out_same told, fault_same f e.status e.err line)
   where
     out_same : TellsOver c AreLines Holds e.out (Err f) → IsSame e.out
-    out_same (inl (holds, inl none)) = untouched_same e.out none
+    out_same (inl (holds, inl none)) = untouched_same e.out none.0
     out_same (inl (holds, inr (r, some))) = elim some.told [
       | inl put ↦ put_same e.out some.text put
       | inr stopped ↦ stopped_same e.out some.text stopped
     ]
     out_same (inr (io, (r, some), works)) = stopped_same e.out some.text some.told
 
-over_same : (c : ShelfChange) (AreLines : List ℕ → Type 0) (Holds : Fault → Type 0) (e : Ending) → AnswersOver c AreLines Holds e → IsSame e.out × IsSame e.err
+over_same : (c : ShelfChange) (AreLines : List ℕ → Type 0) (Holds : ProgramFault → Type 0) (e : Ending) → AnswersOver c AreLines Holds e
+    → IsSame e.out × IsSame e.err
 over_same c AreLines Holds e answers = grind (arith, untouched_same, fault_same)
 
 -- texts that are told, or that no memory was left for them
@@ -70,8 +72,10 @@ usage_same e (inr told) = memory_same e told
 
 -- what was told of what was read
 read_same : (c : ShelfChange) (r : Reading) (e : Ending) → Does c r e → IsSame e.out × IsSame e.err
-read_same c (reading.Order (Lines o)) e does = over_same c ((owed_by o).lines c) ((owed_by o).faults c) e does.answers
-read_same c (reading.Order (EachLine f a)) e does = lines_same c (AreEachLines a.by a.question (c.before.has f.now)) (IsEachFault a.by c f.now) e does.answers
+read_same c (reading.Order (Lines o)) e (inl does) = over_same c ((owed_by o).lines c) ((owed_by o).faults c) e does.0.answers
+read_same c (reading.Order (EachLine f a)) e (inl does) =
+    lines_same c (AreEachLines a.by a.question (c.before.has f.now)) (IsEachFault a.by c f.now) e does.0.answers
+read_same c (reading.Order o) e (inr refused) = usage_same e refused.2
 read_same c (reading.Help _) e does = help_same e does.0
 read_same c reading.Version e does = version_same e does.0
 read_same c (reading.Usage _) e does = usage_same e does.0
@@ -83,8 +87,10 @@ module _ (c : ShelfChange) (words : List Text) (e : Ending) where
   ran r read does =
       record { done = inl (record { read = r; meant = read; done = does }); same_out = (read_same c r e does).0; same_err = (read_same c r e does).1 }
 
-  pub ran_order : (o : Order) → IsReadingOf (meaning_of words) (reading.Order o) → AnswersOrder c o e → KeepsFiles o c.before.has c.after.has → Ran c words e
-  ran_order o read answers keeps = ran (reading.Order o) read (record { answers = answers; right = order_right c e o answers; files = keeps })
+  pub ran_order : (o : Order) → IsReadingOf (meaning_of words) (reading.Order o) → DoesPlaced c o e → Ran c words e
+  ran_order o read (inl (answers, keeps, other)) =
+      ran (reading.Order o) read (inl (record { answers = answers; right = order_right c e o answers; files = keeps }, other))
+  ran_order o read (inr refused) = ran (reading.Order o) read (inr refused)
 
   pub ran_memory : TellsMemory e → LeavesShelf c → Ran c words e
   ran_memory told leaves = let same = memory_same e told in record { done = inr (told, leaves); same_out = same.0; same_err = same.1 }
@@ -100,7 +106,7 @@ ran_alone false c words e ran = ran
 ran_alone true c words e ran = (e.err, ran, inl refl)
 
 -- the fault of a device has one line
-pub io_line : (fault : Fault) → is_io fault ≡ true → fault_line fault ≡ fault_line Io
+pub io_line : (fault : ProgramFault) → is_io fault ≡ true → fault_line fault ≡ fault_line Io
 io_line fault is = grind arith
 
 -- where nothing is called no call failed, nor is anything else done with the shelf

@@ -1,4 +1,5 @@
 -- What the program owes for an order: of each subcommand the record that stands with its answer.
+use Rattle.std.specs.Prelude.{◌≡◌, Bool, false, true, Some}
 use Rattle.dob_words.specs.declared.command.orders.LinesOrder.{LinesOrder}
 use Rattle.dob_words.specs.declared.command.orders.LinesOrder.TheVariants.{Ask, Build, Certify, Check, Count, Info, Migrate, Puzzles, Reach, Reply, Show, Stats, Value, Verify, Zugzwangs}
 use Rattle.dob_words.specs.declared.command.orders.Order.{Order}
@@ -15,8 +16,8 @@ use Rattle.dob_query.specs.Shows.{show_owed}
 use Rattle.dob_verdict.specs.Certificates.{certify_owed, most_entries, verify_owed}
 use Rattle.dob_verdict.specs.Headers.{info_owed}
 use Rattle.dob_verdict.specs.Replying.{reply_owed}
-use Rattle.dob_counts.specs.Reaches.{reach_owed}
-use Rattle.dob_counts.specs.Stats.{stats_owed}
+use Rattle.dob_survey.specs.Reaches.{reach_owed}
+use Rattle.dob_survey.specs.Stats.{stats_owed}
 use Rattle.dob_survey.specs.Checks.{check_owed}
 use Rattle.dob_survey.specs.Migrations.{migrate_owed}
 use Rattle.dob_survey.specs.Puzzles.{puzzles_owed}
@@ -50,6 +51,22 @@ AnswersOrder c (EachLine file asked) = AnswersEach asked c file.now
 abbrev pub AnswersRight : ShelfChange → Order → Ending → Type 0
 AnswersRight c (Lines order) e = (owed_by order).right c e
 AnswersRight c (EachLine file asked) e = ByValueFile c file.now (λ profile. AnswersEachRight asked c profile file.now e)
+
+-- ---- the file that an order makes
+
+-- it makes one
+abbrev pub makes_file : Order → Bool
+makes_file (Lines (Build order)) = true
+makes_file (Lines (Certify order)) = true
+makes_file (Lines (Migrate file out)) = true
+makes_file (Lines (Show file (Some picture) position)) = true
+makes_file _ = false
+
+-- that one has the name of the one that is read, where what is read would be lost by that
+abbrev pub MakesWhatItReads : Order → Type 0
+MakesWhatItReads (Lines (Certify order)) = order.out.now ≡ order.file.now
+MakesWhatItReads (Lines (Show (Some file) (Some picture) position)) = picture.now ≡ file.now
+MakesWhatItReads _ = ⊥
 
 -- it leaves each file what it had, but for the one that the order names to be made
 abbrev pub KeepsFiles : Order → Files → Files → Type 0

@@ -1,5 +1,6 @@
 -- What the program does with its words, whatever they are.
-use Rattle.std.specs.Prelude.{◌≡◌, ◌⊎◌, ℕ, Bool, false, true, List, [], ◌∷◌, ◌++◌, Option, codes}
+use Rattle.std.specs.Prelude.{◌≡◌, ◌≢◌, ◌≤◌, ◌⊎◌, ℕ, Bool, IsTrue, false, true, List, [], ◌∷◌, ◌++◌, Option, codes}
+use Rattle.std.specs.List.{All}
 use Rattle.dob_device.specs.Sinks.{Change, IsSame, IsUntouched, Says, change}
 use Rattle.dob_words.specs.Words.{Text, meaning_of}
 use Rattle.dob_words.specs.declared.command.Order.{Order}
@@ -9,9 +10,9 @@ use Rattle.dob_words.specs.Readings.{IsReadingOf}
 use Rattle.dob_pieces.specs.Bytes.{line_feed}
 use Rattle.dob_files.specs.Endings.{AnswersHelp, AnswersUsage, AnswersVersion, Ending, TellsMemory, ended}
 use Rattle.dob_files.specs.Faults.{fault_line}
-use Rattle.dob_files.specs.declared.fault.Fault.TheVariants.{Io}
-use Rattle.dob_shelf.specs.Shelves.{FailsWhere, LacksEnd, SameFiles, ShelfChange}
-use Rattle.dob_cli.specs.Orders.{AnswersOrder, AnswersRight, KeepsFiles}
+use Rattle.dob_files.specs.declared.fault.ProgramFault.TheVariants.{Io}
+use Rattle.dob_shelf.specs.Shelves.{FailsWhere, SameFiles, ShelfChange}
+use Rattle.dob_cli.specs.Orders.{AnswersOrder, AnswersRight, KeepsFiles, MakesWhatItReads, makes_file}
 
 -- it does what is ordered: by the file of a value table rightly, and with no change of other files than the order names to be made
 pub record DoesOrder (c : ShelfChange) (order : Order) (e : Ending) : Type 0 where
@@ -23,9 +24,18 @@ pub record DoesOrder (c : ShelfChange) (order : Order) (e : Ending) : Type 0 whe
 abbrev pub LeavesShelf : ShelfChange → Type 0
 LeavesShelf c = SameFiles c.before.has c.after.has × FailsWhere c false × (c.after.input ≡ c.before.input)
 
--- it does what was read of the words
+-- What is to be made is one of the program's streams or, by another name maybe, the file that is read: it is refused as words are that make no sense, and
+-- nothing is done. Where the files' bytes are known, one file has one name.
+abbrev pub RefusesOutput : ShelfChange → Order → Ending → Type 0
+RefusesOutput c order e = IsTrue (makes_file order) × (IsTrue c.before.tells → MakesWhatItReads order) × AnswersUsage e × LeavesShelf c
+
+-- what is ordered is answered, and other files are as they were; or its file is none of its own, and nothing is done. What would be lost is never made
+abbrev pub DoesPlaced : ShelfChange → Order → Ending → Type 0
+DoesPlaced c order e = (AnswersOrder c order e × KeepsFiles order c.before.has c.after.has × ¬ MakesWhatItReads order) ⊎ RefusesOutput c order e
+
+-- it does what was read of the words; what would be lost by an order is never made
 abbrev pub Does : ShelfChange → Reading → Ending → Type 0
-Does c (reading.Order order) e = DoesOrder c order e
+Does c (reading.Order order) e = (DoesOrder c order e × ¬ MakesWhatItReads order) ⊎ RefusesOutput c order e
 Does c (reading.Help _) e = AnswersHelp e × LeavesShelf c
 Does c reading.Version e = AnswersVersion e × LeavesShelf c
 Does c (reading.Usage _) e = AnswersUsage e × LeavesShelf c
@@ -48,9 +58,17 @@ pub record Ran (c : ShelfChange) (words : List Text) (e : Ending) : Type 0 where
 
 -- ---- at a terminal
 
--- a line that begins with two spaces: the cause stands behind them, and no line feed within it
+-- none of the bytes is a control character of ASCII
+abbrev pub LacksControls : List ℕ → Type 0
+LacksControls = All (λ b. (32 ≤ b) × (b ≢ 127))
+
+-- more bytes stand behind, none of them a control character
+abbrev pub AddsShown : List ℕ → List ℕ → Type 0
+AddsShown before after = (more : List ℕ) × LacksControls more × (after ≡ before ++ more)
+
+-- a line that begins with two spaces: the cause stands behind them, with no control character within it
 abbrev pub IsCauseLine : List ℕ → Type 0
-IsCauseLine line = (cause : List ℕ) × LacksEnd cause × (line ≡ codes "  " ++ cause ++ line_feed ∷ [])
+IsCauseLine line = (cause : List ℕ) × LacksControls cause × (line ≡ codes "  " ++ cause ++ line_feed ∷ [])
 
 -- nothing more came to standard error, or a line with a cause did
 abbrev pub MaySayCause : Change → Type 0

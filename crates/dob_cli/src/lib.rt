@@ -11,8 +11,9 @@
 
 pub mod laws;
 mod program;
+mod shown;
 
-pub use dob_files::Fault;
+pub use dob_files::ProgramFault;
 pub use dob_lines::{Console, Progress};
 pub use dob_shelf::{
     Claim, Device, DiskFile, DiskShelf, ErrorRecorder, LastError, MemShelf, Shelf, ShelfFault,

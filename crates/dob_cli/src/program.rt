@@ -1,27 +1,29 @@
 // The program: from its words to what it prints and its exit status.
-ghost use Rattle.std.specs.Prelude.{◌≡◌, ◌≢◌, ℕ, List, IfOk, IfErr, IfSome, IsTrue, drop, false, map, string_bytes};
+ghost use Rattle.std.specs.Prelude.{◌≡◌, ◌≢◌, ℕ, List, IfOk, IfErr, IfSome, IsTrue, drop, false, map, string_bytes, true};
 ghost use Rattle.std.specs.IoError.{error_kind};
 ghost use Rattle.std.specs.declared.io.ErrorKind.TheVariants.{OutOfMemory};
 ghost use Rattle.std.specs.Vec.Iter.{into_iter_items};
 ghost use Rattle.dob_device.specs.Sinks.{Says, change};
-ghost use Rattle.dob_cli.specs.Runs.{IsCauseLine, LeavesShelf, MaySayCause, Ran, RanAt, RanOver, TellsNoText, contents};
-ghost use Rattle.dob_cli.specs.Orders.{AnswersOrder, KeepsFiles, owed_by};
+ghost use Rattle.dob_cli.specs.Runs.{DoesPlaced, IsCauseLine, LeavesShelf, MaySayCause, Ran, RanAt, RanOver, TellsNoText, contents};
+ghost use Rattle.dob_cli.specs.Orders.{AnswersOrder, KeepsFiles, MakesWhatItReads, makes_file, owed_by};
 ghost use Rattle.dob_query.specs.QuestionsEach.{AnswersEach};
 ghost use Rattle.dob_shelf.specs.Shelves.{Changes, Leaving, SameFiles};
 ghost use Rattle.dob_files.specs.Endings.{Tells, TellsFaultAs, TellsMemory, TellsOneFault, ended};
 ghost use Rattle.dob_files.specs.Owed.{GivesOwed};
 ghost use Rattle.dob_files.specs.Faults.{fault_line};
 ghost use Rattle.dob_files.specs.Telling.{status_of_lines};
-ghost use Rattle.dob_files.specs.declared.fault.Fault.TheVariants.{Io, Memory};
+ghost use Rattle.dob_files.specs.declared.fault.ProgramFault.TheVariants.{Io, Memory};
 
+use crate::shown::{shown, shown_usage};
 use dob_build::answer_build;
-use dob_counts::{answer_reach, answer_stats};
 use dob_dbfile::{Lent, Sink, put_all, write_all};
-use dob_files::{Answer, Fault};
+use dob_files::{Answer, ProgramFault};
 use dob_lines::Console;
 use dob_query::{answer_count, answer_question, answer_question_each, answer_show, answer_value};
 use dob_shelf::Shelf;
-use dob_survey::{answer_check, answer_migrate, answer_puzzles, answer_zugzwangs};
+use dob_survey::{
+    answer_check, answer_migrate, answer_puzzles, answer_reach, answer_stats, answer_zugzwangs,
+};
 use dob_verdict::{answer_certify, answer_info, answer_reply, answer_verify};
 use dob_words::command::{Asked, LinesOrder, Order, Reading, read_words};
 use std::alloc::{AllocError, Global};
@@ -35,6 +37,10 @@ const USAGE: u8 = 2;
 
 /// The program's name and version.
 const VERSION: &str = "dobutsu 0.1.0\n";
+
+/// What is said where the file to be made is another thing than a file of its own.
+const MISPLACED: &[u8] =
+    b"error: the file to be made is the one that is read, or a stream of the program\n\nFor more information, try '--help'.\n";
 
 /// What is said where an argument isn't UTF-8.
 const NO_TEXT: &[u8] = b"error: an argument is not UTF-8\n\nFor more information, try '--help'.\n";
@@ -123,10 +129,69 @@ fn run_told<'a, S: Shelf, O: Sink, E: Sink>(
         Ok(Reading::Help(text)) => tell(alloc, text.as_str(), out, err),
         Ok(Reading::Version) => tell(alloc, VERSION, out, err),
         Ok(Reading::Usage(text)) => {
-            say(err, text.as_bytes());
+            tell_usage(alloc, words, text, err);
             Told::ending(USAGE)
         }
-        Ok(Reading::Order(order)) => run_order(rt, alloc, order, shelf, out, err),
+        Ok(Reading::Order(order)) => run_placed(rt, alloc, order, shelf, out, err),
+    }
+}
+
+// Says what is wrong with the words, which have that text, by words that show their control characters where memory is left for them.
+fn tell_usage<E: Sink>(alloc: Global, words: &[&str], text: String, err: &mut E)
+    ensures { (text : List ℕ) × Says (change (E.state err.old) (E.state err.new)) text }
+{
+    match shown_usage(alloc, words) {
+        Ok(Some(shown)) => say(err, shown.as_bytes()),
+        _ => say(err, text.as_bytes()),
+    }
+}
+
+// Does what is ordered; or refuses to make a file that is the one that is read, or one of the program's streams.
+fn run_placed<S: Shelf, O: Sink, E: Sink>(
+    rt: &(impl Threads + Wait + Sync + Console),
+    alloc: Global,
+    order: Order<'_>,
+    shelf: &mut S,
+    out: &mut O,
+    err: &mut E,
+) -> Told
+    ensures done { Changes S.state shelf.old shelf.new (λ c. DoesPlaced c order.entry
+        (ended result.status (change (O.state out.old) (O.state out.new)) (change (E.state err.old) (E.state err.new)))) }
+    ensures io { IsTrue result.is_io → Says (change (E.state err.old) (E.state err.new)) (fault_line Io) }
+{
+    let is_refused = is_misplaced(shelf, &order);
+    if is_refused {
+        say(err, MISPLACED);
+        return Told::ending(USAGE);
+    }
+    run_order(rt, alloc, order, shelf, out, err)
+}
+
+// Whether the file that is to be made is one of the program's streams, or the one that is read.
+fn is_misplaced<S: Shelf>(shelf: &S, order: &Order<'_>) -> bool
+    ensures never { MakesWhatItReads order.now → result ≡ true }
+    ensures only { result ≡ true → IsTrue (makes_file order.now) × (IsTrue (S.state shelf.now).tells → MakesWhatItReads order.now) }
+{
+    match order {
+        Order::Lines(LinesOrder::Build(order)) => shelf.is_stream(order.file),
+        Order::Lines(LinesOrder::Certify(order)) => {
+            shelf.is_stream(order.out) || shelf.is_same_file(order.out, order.file)
+        }
+        Order::Lines(LinesOrder::Migrate { out, .. }) => shelf.is_stream(out),
+        Order::Lines(
+            LinesOrder::Show {
+                file: Some(file),
+                picture: Some(picture),
+                ..
+            },
+        ) => shelf.is_stream(picture) || shelf.is_same_file(picture, file),
+        Order::Lines(
+            LinesOrder::Show {
+                picture: Some(picture),
+                ..
+            },
+        ) => shelf.is_stream(picture),
+        _ => false,
     }
 }
 
@@ -227,7 +292,7 @@ fn tell<O: Sink, E: Sink>(alloc: Global, line: &str, out: &mut O, err: &mut E) -
 {
     match put_all(out, line.as_bytes()) {
         Ok(()) => Told::ending(0),
-        Err(_failed) => tell_fault(alloc, Fault::Io, err),
+        Err(_failed) => tell_fault(alloc, ProgramFault::Io, err),
     }
 }
 
@@ -238,15 +303,14 @@ fn say<E: Sink>(err: &mut E, bytes: &[u8])
     let _written = write_all(err, bytes);
 }
 
-// The fault's line.
-fn line_of_fault(alloc: Global, fault: Fault) -> Result<String, AllocError>
+fn line_of_fault(alloc: Global, fault: ProgramFault) -> Result<String, AllocError>
     ensures { IfOk result (λ line. string_bytes line ≡ fault_line fault) }
 {
     format!(in alloc; "dobutsu: {fault}\n")
 }
 
 // Prints a fault on standard error, or that no memory was left for it.
-fn tell_fault<E: Sink>(alloc: Global, fault: Fault, err: &mut E) -> Told
+fn tell_fault<E: Sink>(alloc: Global, fault: ProgramFault, err: &mut E) -> Told
     ensures told { TellsOneFault fault result.status (change (E.state err.old) (E.state err.new)) }
     ensures io { IsTrue result.is_io → Says (change (E.state err.old) (E.state err.new)) (fault_line Io) }
 {
@@ -262,19 +326,14 @@ fn tell_fault<E: Sink>(alloc: Global, fault: Fault, err: &mut E) -> Told
     }
 }
 
-// The line of a cause, with `\n` for each line feed in it.
+// The line of a cause, with its control characters escaped.
 fn cause_line(alloc: Global, cause: &str) -> Result<Vec<u8>, AllocError>
     ensures { IfOk result (λ line. IsCauseLine line.items) }
 {
+    let shown = shown(alloc, cause.as_bytes())?;
     let mut line = Vec::new(alloc);
     line.extend_from_slice(b"  ")?;
-    for byte in cause.bytes() {
-        if byte == b'\n' {
-            line.extend_from_slice(b"\\n")?;
-        } else {
-            line.push(byte)?;
-        }
-    }
+    line.extend_from_slice(&shown)?;
     line.push(b'\n')?;
     Ok(line)
 }
@@ -297,7 +356,7 @@ pub fn tell_memory<E: Sink>(err: &mut E) -> u8
     ensures { TellsFaultAs Memory result (change (E.state err.old) (E.state err.new)) }
 {
     say(err, b"dobutsu: E23 Memory\n");
-    Fault::Memory.status()
+    ProgramFault::Memory.status()
 }
 
 /// Runs the program by what it was given: its name and arguments, or why they can't be had.

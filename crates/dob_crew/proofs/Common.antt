@@ -11,14 +11,14 @@ pub use Rattle.dob_pieces.proofs.Elements.{at_end, get_front, middle, some_at}
 pub use Rattle.dob_pieces.proofs.Zips.{made_all, zip_at, zip_long}
 pub use Rattle.dob_pieces.specs.declared.profile.Family.{Family}
 pub use Rattle.dob_update.specs.Batches.{BatchView}
-pub use Rattle.dob_stops.specs.declared.fault.Fault.{Fault}
-pub use Rattle.dob_stops.specs.declared.fault.Fault.TheVariants.{Nodes, Sizes}
+pub use Rattle.dob_share.specs.declared.build_fault.BuildFault.{BuildFault}
+pub use Rattle.dob_share.specs.declared.build_fault.BuildFault.TheVariants.{Nodes, Sizes}
 pub use Rattle.dob_history.proofs.TakenLists.{carried}
 pub use Rattle.dob_node.specs.Nodes.{IsOpened}
 pub use Rattle.dob_node.specs.declared.node.Node.{Node}
 pub use Rattle.dob_board.specs.Rule.{fresh}
 pub use Rattle.dob_board.specs.Seats.{AreSeats, AreWords, IsSeatOf, stand_of}
-pub use Rattle.dob_board.specs.declared.board.Board.{Board}
+pub use Rattle.dob_board.specs.declared.board.Blackboard.{Blackboard}
 pub use Rattle.dob_board.specs.declared.seat.NodeSeat.{NodeSeat}
 pub use Rattle.dob_chan.specs.Ends.{IsRejoined, place_of, senders_of, sent_by, taken_by}
 pub use Rattle.dob_chan.specs.Inboxes.{IsLawfulInbox, batches_of}

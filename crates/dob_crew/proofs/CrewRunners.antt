@@ -1,6 +1,6 @@
 -- The runners of a crew: before and after their turns.
 use Rattle.dob_crew.proofs.Common.{◌<◌, ◌∙◌, ◌∷◌, ◌≡◌, List, Some, [], ap, arith, length, map, refl, subst, sym, ℕ, length-map, slice_get_within, AllZip}
-use Rattle.dob_crew.proofs.Common.{slice_get, some_at, zip_at, zip_long, Family, BatchView, Fault, Nodes, Sizes, IsSeatOf, Board, IsRejoined, place_of, sent_by}
+use Rattle.dob_crew.proofs.Common.{slice_get, some_at, zip_at, zip_long, Family, BatchView, BuildFault, Nodes, Sizes, IsSeatOf, Blackboard, IsRejoined, place_of, sent_by}
 use Rattle.dob_crew.proofs.Common.{IsLawfulInbox, batches_of, Rejoined, SendEnd, KeepsInlet, IsNew, KeepsRunner, Endpoint, Runner, Inlet, Outlet, AreLinked}
 use Rattle.dob_crew.proofs.Common.{IsCrew, seat_in, AreNewEndpoints, IsNewEndpoint, AreRunnersFor, IsRunnerOf, KeepsPace, endpoint_of, HasCrewFault}
 use Rattle.dob_crew.proofs.Common.{HasSizeFault}
@@ -11,13 +11,12 @@ use Rattle.dob_endpoint.proofs.Places.{map_got, get_map}
 use Rattle.dob_crew.proofs.Seated.{count_is}
 
 -- sizes outside their limits
-pub outside_none : (n batch capacity : ℕ) (fault : Fault) → HasSizeFault n batch capacity fault → HasCrewFault n batch capacity fault
+pub outside_none : (n batch capacity : ℕ) (fault : BuildFault) → HasSizeFault n batch capacity fault → HasCrewFault n batch capacity fault
 outside_none n batch capacity Nodes why = why
 outside_none n batch capacity Sizes why = why
 outside_none n batch capacity _ why = absurd why
 
 -- ---- the runners of a crew's endpoints, before and after their turns
-
 pub endpoints_are : (family : Family) (size : ℕ) (endpoints : List Endpoint) (runners : List Runner) → AllZip (IsRunnerOf family size) endpoints runners → map endpoint_of runners ≡ endpoints
 endpoints_are family size [] [] are = refl
 endpoints_are family size (m ∷ endpoints) (r ∷ runners) are = λ i. are.0.0 i ∷ endpoints_are family size endpoints runners are.1 i
@@ -61,7 +60,7 @@ are_linked runners i j from to outlet inlet sends takes out into = record {
 }
 
 -- each has the seat of its place and a link for each node, and there are as many as the board has nodes
-module _ (board : Board) (runners : List Runner) (crew : IsCrew board (map endpoint_of runners)) where
+module _ (board : Blackboard) (runners : List Runner) (crew : IsCrew board (map endpoint_of runners)) where
   pub seat_at : (k : ℕ) (runner : Runner) → slice_get runners k ≡ Some runner → IsSeatOf board.rest.table_id board.nodes k runner.endpoint.seat
   seat_at k runner at = crew.seats.seats_are k runner.endpoint.seat (seat_there runners k runner at)
 
@@ -84,7 +83,7 @@ was_at old new k endpoint kept at =
     (before.0, after.0, before.1, before.2, after.2)
 
 -- the runners of a crew are one after their turns
-pub crew_kept : (board : Board) (old new : List Runner) → IsCrew board (map endpoint_of old) → AllZip KeepsRunner old new → IsCrew board (map endpoint_of new)
+pub crew_kept : (board : Blackboard) (old new : List Runner) → IsCrew board (map endpoint_of old) → AllZip KeepsRunner old new → IsCrew board (map endpoint_of new)
 crew_kept board old new crew kept = record {
   seats = record {
     count = length-map (map endpoint_of new) seat_in ∙ length-map new endpoint_of ∙ zip_long KeepsRunner old new kept ∙ crew_many board old crew;

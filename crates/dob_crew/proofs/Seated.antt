@@ -1,7 +1,7 @@
 -- The endpoints of a crew, seated, taken apart and closed one by one.
 use Rattle.dob_crew.proofs.Common.{◌*◌, ◌++◌, ◌+◌, ◌-◌, ◌<◌, ◌∙◌, ◌∷◌, ◌≡◌, List, Some, [], ap, arith, inl, inr, length, length-append, map, refl, subst, suc}
 use Rattle.dob_crew.proofs.Common.{sym, take, zero, ℕ, length-map, same_Some, slice_get_within, replicate, slice_get, slice_index, Vec, at_end, get_front}
-use Rattle.dob_crew.proofs.Common.{middle, some_at, BatchView, fresh, AreSeats, IsSeatOf, stand_of, Board, NodeSeat, IsRejoined, senders_of, taken_by}
+use Rattle.dob_crew.proofs.Common.{middle, some_at, BatchView, fresh, AreSeats, IsSeatOf, stand_of, Blackboard, NodeSeat, IsRejoined, senders_of, taken_by}
 use Rattle.dob_crew.proofs.Common.{batches_of, Rejoined, SendEnd, TakeEnd, offered, worked, in_slot, Endpoint, Inlet, Outlet, AreLinked, ArePartsOf, HasAdded}
 use Rattle.dob_crew.proofs.Common.{HasRowMore, IsCrew, end_in, ends_out, row_of, seat_in, slots_in, slots_out, AreNewEndpoints, AreEnds, AreJoined, outlet_end}
 use Rattle.dob_crew.proofs.Common.{AreDealt, StandsAt, AreSeated, CanSeatAll, AreLaid, IsLaid, IsUntaken}
@@ -11,7 +11,6 @@ use Rattle.dob_board.specs.declared.view.SeatState.{SeatState}
 use Rattle.dob_crew.specs.declared.crew_close.Parts.{Parts}
 
 -- ---- what endpoints are at the start, of seats with their rows of outlets and their inlets
-
 at_replicate : {A : Type 0} → (m k : ℕ) (x y : A) → slice_get (replicate m x) k ≡ Some y → x ≡ y
 at_replicate zero k x y e = absurd (cc)
 at_replicate (suc m) zero x y e = same_Some x y e
@@ -41,7 +40,7 @@ module _ {Z : Type 0} (capacity n : ℕ) (rows : List (Vec Outlet Z)) (inlets : 
       let inlet = some_at inlets j (omega (arith, low, are.count)) in
       (inlet.0, are.laid i j outlet inlet.0 at inlet.1)
 
-  module _ (board : Board) (seats : List NodeSeat) (are : AreLaid capacity n rows inlets) (of : AreSeats board.rest.table_id n seats)
+  module _ (board : Blackboard) (seats : List NodeSeat) (are : AreLaid capacity n rows inlets) (of : AreSeats board.rest.table_id n seats)
       (new : map stand_of seats ≡ replicate n (fresh n)) where
     is_fresh : (k : ℕ) (seat : NodeSeat) → slice_get seats k ≡ Some seat → fresh n ≡ seat.stand
     is_fresh k seat at = at_replicate n k (fresh n) seat.stand (ap (λ (l : List SeatState). slice_get l k) (sym new) ∙ get_map stand_of seats k seat at)
@@ -98,7 +97,6 @@ module _ {Z : Type 0} (capacity n : ℕ) (rows : List (Vec Outlet Z)) (inlets : 
     }
 
 -- ---- endpoints taken apart one by one, and what their ends are then
-
 map_end : {A B : Type 0} → (f : A → B) (xs : List A) (x : A) → map f (xs ++ x ∷ []) ≡ map f xs ++ f x ∷ []
 map_end f [] x = refl
 map_end {A} {B} f (y ∷ xs) x = ap (λ (zs : List B). f y ∷ zs) (map_end f xs x)
@@ -143,14 +141,14 @@ parts_more n endpoints endpoint old new are added wide =
 -- ---- the inboxes of a crew
 
 -- the crew is as many as its board has nodes
-module _ (board : Board) (endpoints : List Endpoint) where
+module _ (board : Blackboard) (endpoints : List Endpoint) where
   pub count_is : IsCrew board endpoints → length endpoints ≡ board.nodes
   count_is crew = sym (length-map endpoints seat_in) ∙ crew.seats.count
 
   pub nodes_are : IsCrew board endpoints → (k : ℕ) (endpoint : Endpoint) → slice_get endpoints k ≡ Some endpoint → endpoint.seat.nodes ≡ board.nodes
   nodes_are crew k endpoint at = (crew.seats.seats_are k endpoint.seat (get_map seat_in endpoints k endpoint at)).nodes
 
-module _ (board : Board) (endpoints : List Endpoint) (parts : Parts) where
+module _ (board : Blackboard) (endpoints : List Endpoint) (parts : Parts) where
   -- the taking end at a place is that of the endpoint there
   take_at : ArePartsOf board.nodes endpoints parts → (j : ℕ) (take : TakeEnd) → slice_get parts.takes.items j ≡ Some take →
       (endpoint : Endpoint) × (slice_get endpoints j ≡ Some endpoint) × (endpoint.inlet.end ≡ take)

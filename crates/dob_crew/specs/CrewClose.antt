@@ -2,7 +2,7 @@
 use Rattle.std.specs.Prelude.{◌≡◌, ℕ, ◌+◌, ◌*◌, List, [], ◌∷◌, ◌++◌, Option, Some, length, map, slice_get}
 use Rattle.std.specs.declared.vec.Vec.{Vec}
 use Rattle.dob_update.specs.Batches.{BatchView}
-use Rattle.dob_board.specs.declared.board.Board.{Board}
+use Rattle.dob_board.specs.declared.board.Blackboard.{Blackboard}
 use Rattle.dob_board.specs.declared.seat.NodeSeat.{NodeSeat}
 use Rattle.dob_board.specs.Seats.{AreSeats, AreWords}
 use Rattle.dob_chan.specs.declared.ends.SendEnd.{SendEnd}
@@ -32,7 +32,7 @@ seat_in endpoint = endpoint.seat
 
 -- The endpoints are those of the nodes of the board, in order, and the outlet of each for each one sends to the inbox from which
 -- the other one takes, at the place of its own node.
-pub record IsCrew (board : Board) (endpoints : List Endpoint) : Type 0 where
+pub record IsCrew (board : Blackboard) (endpoints : List Endpoint) : Type 0 where
   pub seats : AreSeats board.rest.table_id board.nodes (map seat_in endpoints)
   pub paired : (i j : ℕ) (outlet : Outlet) (inlet : Inlet) → AreLinked endpoints i j outlet inlet → IsEndOf inlet.end i outlet.end
 

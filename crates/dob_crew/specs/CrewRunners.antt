@@ -1,7 +1,7 @@
 -- The runners of a crew's endpoints.
 use Rattle.std.specs.Prelude.{◌≡◌, ℕ, List, None, Some, map, slice_get}
 use Rattle.dob_pieces.specs.declared.profile.Family.{Family}
-use Rattle.dob_board.specs.declared.board.Board.{Board}
+use Rattle.dob_board.specs.declared.board.Blackboard.{Blackboard}
 use Rattle.dob_node.specs.declared.node.Node.{Node}
 use Rattle.dob_endpoint.specs.declared.endpoint.Endpoint.{Endpoint}
 use Rattle.dob_runner.specs.declared.runner.Runner.{Runner}
@@ -37,7 +37,7 @@ IsRunnerOf family size endpoint runner =
 
 -- The board and the runners of n nodes of the family, in order, before their first turn. They cut batches of at most that
 -- size, and nothing has gone over their links; their inboxes have that capacity, and each keeps pace.
-pub record IsNewCrew (family : Family) (n size capacity : ℕ) (board : Board) (runners : List Runner) : Type 0 where
+pub record IsNewCrew (family : Family) (n size capacity : ℕ) (board : Blackboard) (runners : List Runner) : Type 0 where
   pub nodes : board.nodes ≡ n
   pub crew : IsCrew board (map endpoint_of runners)
   pub each : AreRunnersFor family size runners

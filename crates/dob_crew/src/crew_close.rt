@@ -3,7 +3,7 @@ ghost use Rattle.std.specs.Prelude.{◌≡◌, ℕ, Some, IfOk, OnOk, map, slice
 ghost use Rattle.dob_crew.specs.CrewClose.{IsCrew, HasAdded, ArePartsOf, AreClosed};
 ghost use Rattle.dob_crew.specs.CrewRunners.{endpoint_of, node_of};
 
-use dob_board::{Board, Closed, NodeSeat};
+use dob_board::{Blackboard, Closed, NodeSeat};
 use dob_chan::{Rejoined, SendEnd, TakeEnd};
 use dob_endpoint::{Endpoint, Inlet};
 use dob_inboxes::{empty_rows, part_outlets, push_each, rejoin_all, spread_slot};
@@ -43,7 +43,7 @@ struct Parts {
 pub fn close_runners<R: Wait>(
     rt: &R,
     alloc: Global,
-    board: Board,
+    board: Blackboard,
     runners: Vec<Runner>,
 ) -> Result<(Vec<Node>, ClosedCrew), Memory>
     requires { IsCrew board (map endpoint_of runners.items) }

@@ -11,7 +11,7 @@ ghost use Rattle.dob_crew.specs.Faults.{AreWithin, HasCrewFault};
 ghost use Rattle.dob_crew.specs.Seating.{AreSeated, CanSeat, CanSeatAll};
 
 use crate::limits::CrewSizes;
-use dob_board::{Board, NodeSeat};
+use dob_board::{Blackboard, NodeSeat};
 use dob_classes::Classes;
 use dob_endpoint::{Endpoint, Inlet, Outlet};
 use dob_inboxes::open_inboxes;
@@ -19,7 +19,7 @@ use dob_node::Node;
 use dob_pieces::Memory;
 use dob_runner::{Pace, Runner};
 use dob_safra::NodeCount;
-use dob_stops::Fault;
+use dob_share::BuildFault;
 use dob_update::{BatchSize, Capacity};
 use rayon::prelude::*;
 use std::alloc::Global;
@@ -40,7 +40,7 @@ pub fn crew(
     nodes: usize,
     batch_size: usize,
     capacity: usize,
-) -> Result<(Board, Vec<Runner>), Fault>
+) -> Result<(Blackboard, Vec<Runner>), BuildFault>
     ensures opened { IfOk result (λ opened. IsNewCrew classes.now.family nodes batch_size capacity opened.0 opened.1.items) }
     ensures within { OnOk result (AreWithin nodes batch_size capacity) }
     ensures fault { IfErr result (HasCrewFault nodes batch_size capacity) }
@@ -56,7 +56,7 @@ pub fn crew_of(
     alloc: Global,
     classes: &Classes,
     sizes: &CrewSizes,
-) -> Result<(Board, Vec<Runner>), Memory>
+) -> Result<(Blackboard, Vec<Runner>), Memory>
     ensures { IfOk result (λ opened. IsNewCrew classes.now.family sizes.now.nodes sizes.now.batch_size sizes.now.capacity opened.0 opened.1.items) }
 {
     let (board, endpoints) = open_endpoints(alloc, sizes.nodes, sizes.capacity)?;
@@ -117,12 +117,12 @@ fn open_endpoints(
     alloc: Global,
     nodes: NodeCount,
     capacity: Capacity,
-) -> Result<(Board, Vec<Endpoint>), Memory>
+) -> Result<(Blackboard, Vec<Endpoint>), Memory>
     ensures nodes { IfOk result (λ opened. opened.0.nodes ≡ nodes) }
     ensures crew { IfOk result (λ opened. IsCrew opened.0 opened.1.items) }
     ensures new { IfOk result (λ opened. AreNewEndpoints capacity opened.1.items) }
 {
-    let (board, seats) = Board::open_for(alloc, nodes)?;
+    let (board, seats) = Blackboard::open_for(alloc, nodes)?;
     let (rows, inlets) = open_inboxes(alloc, nodes, capacity)?;
     let endpoints = seat_all(alloc, seats, rows, inlets)?;
     Ok((board, endpoints))

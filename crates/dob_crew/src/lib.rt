@@ -3,7 +3,7 @@
 // The files: `limits` has the sizes of a crew; `crew_open` and `crew_close` open and close one.
 //
 // Choices:
-// - A crew opens and closes by its endpoints (`open_endpoints`, `close_endpoints`). A crew that runs out of memory while it is closed is given up.
+// - A crew opens by its endpoints (`open_endpoints`) and closes by their parts (`part_runners`). A crew that runs out of memory while it is closed is given up.
 // - Each node finds the openings of its own classes in its own task (`open_runner`), so that nothing is found one by one before the nodes open.
 #![tactic(auto)]
 

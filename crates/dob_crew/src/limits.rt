@@ -3,7 +3,7 @@ ghost use Rattle.std.specs.Prelude.{IfOk, IfErr, OnOk};
 ghost use Rattle.dob_crew.specs.Faults.{AreWithin, HasSizeFault};
 
 use dob_safra::NodeCount;
-use dob_stops::Fault;
+use dob_share::BuildFault;
 use dob_update::{BatchSize, Capacity};
 
 /// The most items of a batch where the program builds: a batch takes 6 kB for them, and a node's turn, which makes about so
@@ -32,19 +32,19 @@ impl CrewSizes {
     ///
     /// Tested in this order: `Nodes` if `nodes` isn't 1 to 16; `Sizes` if `batch_size` isn't 1 to 4096 or `capacity`
     /// not 1 to 1024.
-    pub fn new(nodes: usize, batch_size: usize, capacity: usize) -> Result<CrewSizes, Fault>
+    pub fn new(nodes: usize, batch_size: usize, capacity: usize) -> Result<CrewSizes, BuildFault>
         ensures sizes { IfOk result (AreThese nodes batch_size capacity) }
         ensures within { OnOk result (AreWithin nodes batch_size capacity) }
         ensures fault { IfErr result (HasSizeFault nodes batch_size capacity) }
     {
         let Some(nodes) = NodeCount::new(nodes) else {
-            return Err(Fault::Nodes);
+            return Err(BuildFault::Nodes);
         };
         let Some(batch_size) = BatchSize::new(batch_size) else {
-            return Err(Fault::Sizes);
+            return Err(BuildFault::Sizes);
         };
         let Some(capacity) = Capacity::new(capacity) else {
-            return Err(Fault::Sizes);
+            return Err(BuildFault::Sizes);
         };
         Ok(CrewSizes {
             nodes,

@@ -90,7 +90,6 @@ length-records [] = refl
 length-records (value ∷ values) = let rest = length-records values in omega (arith, rest)
 
 -- ---- the records in pieces
-
 pub length-code_bytes : (codes : List ℕ) → length (code_bytes codes) ≡ 2 * length codes
 length-code_bytes [] = refl
 length-code_bytes (code ∷ codes) = let rest = length-code_bytes codes in omega (arith, rest)

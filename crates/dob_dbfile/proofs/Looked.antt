@@ -25,7 +25,6 @@ record_cut stream format class Memory cut known = absurd (known refl)
 record_cut stream format class _ cut known = absurd cut
 
 -- ---- the record of a class in the file of a table
-
 one_entry : (value : Value) → IsEntry value → All IsEntry (value ∷ [])
 one_entry value entry zero default below = entry
 one_entry value entry (suc i) default below = absurd (omega (arith, below))

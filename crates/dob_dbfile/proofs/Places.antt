@@ -10,7 +10,6 @@ use Rattle.dob_dbfile.specs.Faults.{HasFront, IsWhole, IsNoLonger, Ends}
 use Rattle.dob_dbfile.specs.declared.fault.Fault.TheVariants as fault
 
 -- ---- one format, one set, one family
-
 same_title : (f g : Format) → title f ≡ title g → f ≡ g
 same_title First First same = refl
 same_title Second Second same = refl
@@ -52,7 +51,6 @@ by_family : (f g : Format) (p q : Family) (bytes : List ℕ) (P : Format → Fam
 by_family f g p q bytes P at_f at_g holds = grind (arith, same_head)
 
 -- ---- how far a stream passes the tests
-
 abbrev level : Stream → ℕ → Type 0
 level s zero = Unit {0}
 level s (suc zero) = HasFront s.bytes

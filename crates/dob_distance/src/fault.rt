@@ -1,6 +1,6 @@
 // The faults of this crate.
 ghost use Rattle.std.specs.Prelude.{◌≡◌, Some};
-ghost use Rattle.dob_distance.specs.declared.fault.Fault.TheVariants as fault;
+ghost use Rattle.dob_distance.specs.declared.fault.ValueFault.TheVariants as fault;
 
 use dob_pieces::Memory;
 use std::alloc::{AllocError, AllocFailed};
@@ -9,48 +9,48 @@ use std::fmt;
 
 /// Why no value is given.
 #[derive(Clone, Copy, Debug, PartialEq, Eq)]
-pub enum Fault {
+pub enum ValueFault {
     /// E12: some position of the family is won or lost in more plies than an entry can hold.
     TooDeep,
     /// E23: a growth was refused, since no memory was left for it.
     Memory,
 }
 
-impl fmt::Display for Fault {
+impl fmt::Display for ValueFault {
     ghost use Rattle.dob_distance.specs.Faults.{fault_text};
 
     ghost output = { λ fault. Some (fault_text fault) };
 
     fn fmt<W: fmt::Write>(&self, f: &mut fmt::Formatter<W>) -> fmt::Result {
         match self {
-            Fault::TooDeep => write!(f, "E12 TooDeep"),
-            Fault::Memory => write!(f, "{Memory}"),
+            ValueFault::TooDeep => write!(f, "E12 TooDeep"),
+            ValueFault::Memory => write!(f, "{Memory}"),
         }
     }
 }
 
-impl Error for Fault {}
+impl Error for ValueFault {}
 
-impl From<Memory> for Fault {
+impl From<Memory> for ValueFault {
     ghost from_gives = { λ _ given. given ≡ fault.Memory };
 
-    fn from(_lower: Memory) -> Fault {
-        Fault::Memory
+    fn from(_lower: Memory) -> ValueFault {
+        ValueFault::Memory
     }
 }
 
-impl From<AllocError> for Fault {
+impl From<AllocError> for ValueFault {
     ghost from_gives = { λ _ given. given ≡ fault.Memory };
 
-    fn from(_lower: AllocError) -> Fault {
-        Fault::Memory
+    fn from(_lower: AllocError) -> ValueFault {
+        ValueFault::Memory
     }
 }
 
-impl<T: Drop> From<AllocFailed<T>> for Fault {
+impl<T: Drop> From<AllocFailed<T>> for ValueFault {
     ghost from_gives = { λ _ given. given ≡ fault.Memory };
 
-    fn from(_lower: AllocFailed<T>) -> Fault {
-        Fault::Memory
+    fn from(_lower: AllocFailed<T>) -> ValueFault {
+        ValueFault::Memory
     }
 }

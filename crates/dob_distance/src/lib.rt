@@ -8,5 +8,5 @@ pub mod laws;
 mod value;
 
 pub use codes::{code_of_value, value_of_code};
-pub use fault::Fault;
+pub use fault::ValueFault;
 pub use value::{MAX_DISTANCE, Value};

@@ -10,7 +10,6 @@ use Rattle.dob_endpoint.specs.TokenMoves.{HasLooked, HandsOn, MovesToken}
 use Rattle.dob_endpoint.proofs.Links.{each_after}
 
 -- ---- lists of batches
-
 pub goes_on_same : (xs ys : List BatchView) → ys ≡ xs → IsBeginning xs ys
 goes_on_same xs ys same = ([], same ∙ sym (append-nil xs))
 
@@ -18,7 +17,6 @@ goes_on_trans : (xs ys zs : List BatchView) → IsBeginning xs ys → IsBeginnin
 goes_on_trans xs ys zs one two = (one.0 ++ two.0, two.1 ∙ ap (λ bs. bs ++ two.0) one.1 ∙ append_assoc xs one.0 two.0)
 
 -- ---- links
-
 pub outlet_kept : (old new : Outlet) → new.end ≡ old.end → KeepsOutlet old new
 outlet_kept old new same =
     (subst (λ (e : SendEnd). SendsToSame old.end e) (sym same) (refl, refl, refl, refl), goes_on_same (sent_by old.end) (sent_by new.end) (ap (λ (e : SendEnd). sent_by e) same))
@@ -40,7 +38,6 @@ inlet_trans : (x y z : Inlet) → KeepsInlet x y → KeepsInlet y z → KeepsInl
 inlet_trans x y z one two = ((two.0.0 ∙ one.0.0, two.0.1 ∙ one.0.1), goes_on_trans (taken_by x.end) (taken_by y.end) (taken_by z.end) one.1 two.1)
 
 -- ---- lists of links
-
 pub one_kept : {L : Type 0} (Keeps : L → L → Type 0) → ((x : L) → Keeps x x) → (xs : List L) (k : ℕ) (x y : L) → slice_get xs k ≡ Some x → Keeps x y →
     KeepsEach Keeps xs (set xs k y)
 one_kept Keeps self xs k x y at keeps j before after old new =
@@ -59,7 +56,6 @@ each_trans Keeps trans xs ys zs long one two j before after old new =
     trans before between.0 after (one j before between.0 old between.1) (two j between.0 after between.1 new)
 
 -- ---- seats and endpoints
-
 pub seat_same : (seat : NodeSeat) → IsSameSeat seat seat
 seat_same seat = record { node = refl; nodes = refl; board = refl }
 

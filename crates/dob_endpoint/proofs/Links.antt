@@ -93,7 +93,6 @@ taken_rises n counts before after from batch are within is more j low = elim (ca
 ]
 
 -- ---- what changed of several links
-
 pub changed_there : {L : Type 0} (R : L → L → Type 0) (xs ys : List L) (k : ℕ) → (one : HasChangedOne R k xs ys) → slice_get ys k ≡ Some one.1
 changed_there {L} R xs ys k one = ap (λ (l : List L). slice_get l k) one.4 ∙ get_set_same xs k one.1 (slice_get_within xs k one.0 one.2)
 

@@ -18,5 +18,5 @@ pub use Rattle.dob_files.specs.Faults.{fault_of_shelf, is_io}
 pub use Rattle.dob_files.specs.Keeping.{FillsSink, IsShelfFault, KeepsFilled, LeavesFiles}
 pub use Rattle.dob_files.specs.Tables.{HasValueFile, IsFileOf, IsOpeningFault, IsPositionFault, IsShut, IsTextOf}
 pub use Rattle.dob_files.specs.Telling.{AnswersLines, AreAllLines, EndsLines, HearsLine, PutsText, TellsOf, TellsSome, Told, told_of}
-pub use Rattle.dob_files.specs.declared.fault.Fault.{Fault}
-pub use Rattle.dob_files.specs.declared.fault.Fault.TheVariants.{Io, Memory, Table}
+pub use Rattle.dob_files.specs.declared.fault.ProgramFault.{ProgramFault}
+pub use Rattle.dob_files.specs.declared.fault.ProgramFault.TheVariants.{Io, Memory, Table}

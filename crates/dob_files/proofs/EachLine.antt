@@ -3,13 +3,14 @@ use Rattle.dob_files.proofs.Common.{◌++◌, ◌||◌, ◌∙◌, ◌∷◌, �
 use Rattle.dob_files.proofs.Common.{subst, sym, true, ℕ, or-false, Err, IfErr, Ok, OnOk, Result, Change, Puts, SinkState}
 use Rattle.dob_files.proofs.Common.{Stops, change, FailsWhere, ShelfChange}
 use Rattle.dob_files.proofs.Common.{Ending, is_io, AnswersLines, AreAllLines, EndsLines, HearsLine}
-use Rattle.dob_files.proofs.Common.{PutsText, TellsOf, TellsSome, Told, Fault, Io}
+use Rattle.dob_files.proofs.Common.{PutsText, TellsOf, TellsSome, Told, ProgramFault, Io, Memory}
 use Rattle.std.proofs.Common.{append_assoc, arith}
 use Rattle.std.proofs.lemmas.Grind.{flat_map-append}
 use Rattle.std.proofs.lemmas.List.Folds.{concat-append, list_any-append}
 use Rattle.std.specs.List.{list_any}
 use Rattle.std.specs.Str.Lines.{lines as lines_of}
-use Rattle.dob_files.specs.Telling.{AreAnswers, AreFirstLines, PutsAll, StopsText, TellsEach, TellsLinesOf, TellsOne, TellsOver, told_refused, told_text}
+use Rattle.dob_files.specs.Telling.{AreAnswers, AreFirstLines, AreLinesBefore, TakesOne, PutsAll, StopsText, TellsEach, TellsLinesOf, TellsOne, TellsOver}
+use Rattle.dob_files.specs.Telling.{told_refused, told_text}
 
 -- ---- one more line
 
@@ -46,7 +47,6 @@ module _ (A : Type 0) (tell : A → List ℕ) (refuses : A → Bool) (Is : List 
   }
 
 -- ---- pieces, one after the other
-
 all_after : (first next last : SinkState) (xs ys : List (List ℕ)) → PutsAll first next xs → PutsAll next last ys → PutsAll first last (xs ++ ys)
 all_after first next last [] ys same all = subst (λ (s : SinkState). PutsAll s last ys) same all
 all_after first next last (x ∷ xs) ys all more = (all.0, all.1, all_after all.0 next last xs ys all.2 more)
@@ -63,7 +63,7 @@ put_more first next last xs ys one more =
     (one.0 ++ more.0, all_after first next last one.0 more.0 one.1 more.1, rw (one.2, more.2) (sym (concat-append one.0 more.0)))
 
 -- what a call that tells gave
-pub put_or_stopped : (c : Change) (text : List ℕ) (result : Result (Unit {0}) Fault) → OnOk result (PutsText c text)
+pub put_or_stopped : (c : Change) (text : List ℕ) (result : Result (Unit {0}) ProgramFault) → OnOk result (PutsText c text)
     → IfErr result (λ fault. (fault ≡ Io) × Stops c text) → PutsText c text ⊎ Stops c text
 put_or_stopped c text result put stopped = grind arith
 
@@ -137,13 +137,30 @@ module _ {Is : List ℕ → Told → Type 0} {input left : Option (List ℕ)} {f
     told = told;
   }
 
-  pub first_stopped : (last : SinkState) → Stops (change now last) held → TellsSome (AreFirstLines input) (TellsOf Is) is_refused (StopsText (change first last))
+  pub first_stopped : (last : SinkState) → Stops (change now last) held
+      → TellsSome (AreFirstLines input) (TellsOf Is) is_refused (StopsText (change first last))
   first_stopped last stops = first_heard (heard.text, held, now, heard.told, stops, refl)
 
-  pub first_told : (last : SinkState) → PutsText (change now last) held ⊎ Stops (change now last) held
-      → TellsSome (AreFirstLines input) (TellsOf Is) is_refused (λ text. PutsText (change first last) text ⊎ StopsText (change first last) text)
-  first_told last (inl put) = first_heard (inl (put_more first now last heard.text held heard.told put))
-  first_told last (inr stops) = first_heard (inr (heard.text, held, now, heard.told, stops, refl))
+  -- where that is by a fault, these are all lines before the one that came to it
+  all_before : (after : Option (List ℕ)) (fault : ProgramFault) → (fault ≡ Memory) ⊎ TakesOne left after → AreLinesBefore input after fault heard.lines
+  all_before after fault taken = λ known is.
+      let was = heard.split known is in (was.0, was.2, subst (λ (l : Option (List ℕ)). (fault ≡ Memory) ⊎ TakesOne l after) was.1 taken)
+
+  before_heard : (after : Option (List ℕ)) (fault : ProgramFault) → (fault ≡ Memory) ⊎ TakesOne left after → {IsToldSo : List ℕ → Type 0}
+      → IsToldSo (heard.text ++ held) → TellsSome (AreLinesBefore input after fault) (TellsOf Is) is_refused IsToldSo
+  before_heard after fault taken told = record {
+    lines = heard.lines;
+    which = all_before after fault taken;
+    text = heard.text ++ held;
+    right = heard.right;
+    told = told;
+  }
+
+  pub first_told : (last : SinkState) (after : Option (List ℕ)) (fault : ProgramFault) → (fault ≡ Memory) ⊎ TakesOne left after
+      → PutsText (change now last) held ⊎ Stops (change now last) held
+      → TellsSome (AreLinesBefore input after fault) (TellsOf Is) is_refused (λ text. PutsText (change first last) text ⊎ StopsText (change first last) text)
+  first_told last after fault taken (inl put) = before_heard after fault taken (inl (put_more first now last heard.text held heard.told put))
+  first_told last after fault taken (inr stops) = before_heard after fault taken (inr (heard.text, held, now, heard.told, stops, refl))
 
   -- of bytes that are known all are known
   pub never_known : left ≡ None → input ≡ None
@@ -160,7 +177,8 @@ pub still_works : (failed by : Bool) → by ≡ false → (failed || by) ≡ fai
 still_works failed by works = ap (λ (b : Bool). failed || b) works ∙ or-false failed
 
 -- what ends all by another one that answers
-pub ends_weaker : (Ends Other : Fault → Type 0) (left input : Option (List ℕ)) (fault : Fault) → ((fault : Fault) → Ends fault → Other fault)
+pub ends_weaker : (Ends Other : ProgramFault → Type 0) (left input : Option (List ℕ)) (fault : ProgramFault)
+    → ((fault : ProgramFault) → Ends fault → Other fault)
     → (left ≡ None → input ≡ None) → EndsLines Ends left fault → EndsLines Other input fault
 ends_weaker Ends Other left input fault weaker none ends = grind (arith, weaker, none)
 
@@ -180,11 +198,13 @@ some_weaker Which Other AreLines Are is_refused IsToldSo IsSaidSo which right so
 }
 
 -- of lines that are right in another way, with faults that hold too
-pub each_weaker : (input known : Option (List ℕ)) (AreLines Are : List (List ℕ) → Bool → List ℕ → Type 0) (Holds Also : Fault → Type 0) (Works Fine : Type 0)
-    (out : Change) (result : Result Bool Fault) → known ≡ input
+pub each_weaker : (input known left after : Option (List ℕ)) (AreLines Are : List (List ℕ) → Bool → List ℕ → Type 0) (Holds Also : ProgramFault → Type 0)
+    (Works Fine : Type 0)
+    (out : Change) (result : Result Bool ProgramFault) → known ≡ input → after ≡ left
     → ((lines : List (List ℕ)) (is_refused : Bool) (text : List ℕ) → AreLines lines is_refused text → Are lines is_refused text)
-    → ((fault : Fault) → Holds fault → Also fault) → (Works → Fine) → TellsEach input AreLines Holds Works out result → TellsEach known Are Also Fine out result
-each_weaker input known AreLines Are Holds Also Works Fine out result same right fault fine = go result
+    → ((fault : ProgramFault) → Holds fault → Also fault) → (Works → Fine) → TellsEach input left AreLines Holds Works out result
+    → TellsEach known after Are Also Fine out result
+each_weaker input known left after AreLines Are Holds Also Works Fine out result same kept right fault fine = go result
   where
     all : (lines : List (List ℕ)) → AreAllLines input lines → AreAllLines known lines
     all lines which = λ bytes is. which bytes (sym same ∙ is)
@@ -192,24 +212,29 @@ each_weaker input known AreLines Are Holds Also Works Fine out result same right
     first : (lines : List (List ℕ)) → AreFirstLines input lines → AreFirstLines known lines
     first lines which = λ bytes is. which bytes (sym same ∙ is)
 
-    go : (r : Result Bool Fault) → TellsEach input AreLines Holds Works out r → TellsEach known Are Also Fine out r
+    before : (f : ProgramFault) (lines : List (List ℕ)) → AreLinesBefore input left f lines → AreLinesBefore known after f lines
+    before f lines which = λ bytes is. let was = which bytes (sym same ∙ is) in
+        (was.0, was.1, subst (λ (l : Option (List ℕ)). (f ≡ Memory) ⊎ TakesOne (Some was.0) l) (sym kept) was.2)
+
+    go : (r : Result Bool ProgramFault) → TellsEach input left AreLines Holds Works out r → TellsEach known after Are Also Fine out r
     go (Ok r) told = (some_weaker _ _ AreLines Are r _ _ all (λ lines text. right lines r text) (λ text so. so) told.0, fine told.1)
-    go (Err f) (inl (holds, inl none)) = inl (fault f holds, inl none)
+    go (Err f) (inl (holds, inl none)) = inl (fault f holds, inl (none.0, kept ∙ (none.1 ∙ sym same)))
     go (Err f) (inl (holds, inr (r, some))) =
-        inl (fault f holds, inr (r, some_weaker _ _ AreLines Are r _ _ first (λ lines text. right lines r text) (λ text so. so) some))
+        inl (fault f holds, inr (r, some_weaker _ _ AreLines Are r _ _ (before f) (λ lines text. right lines r text) (λ text so. so) some))
     go (Err f) (inr (io, (r, some), works)) =
         inr (io, (r, some_weaker _ _ AreLines Are r _ _ first (λ lines text. right lines r text) (λ text so. so) some), fine works)
 
 -- over a shelf, and so the program answers them
-over_weaker : (c : ShelfChange) (AreLines Are : List (List ℕ) → Bool → List ℕ → Type 0) (Holds : Fault → Type 0) (out : Change) (result : Result Bool Fault)
+over_weaker : (c : ShelfChange) (AreLines Are : List (List ℕ) → Bool → List ℕ → Type 0) (Holds : ProgramFault → Type 0) (out : Change)
+    (result : Result Bool ProgramFault)
     → ((lines : List (List ℕ)) (is_refused : Bool) (text : List ℕ) → AreLines lines is_refused text → Are lines is_refused text)
     → TellsOver c AreLines Holds out result → TellsOver c Are Holds out result
 over_weaker c AreLines Are Holds out result right =
-    let Over : Fault → Type 0 = λ fault. Holds fault × FailsWhere c (is_io fault) in
-    each_weaker c.before.input c.before.input AreLines Are Over Over (FailsWhere c false) (FailsWhere c false) out result refl right
+    let Over : ProgramFault → Type 0 = λ fault. Holds fault × FailsWhere c (is_io fault) in
+    each_weaker c.before.input c.before.input c.after.input c.after.input AreLines Are Over Over (FailsWhere c false) (FailsWhere c false) out result refl refl right
     (λ fault holds. holds) (λ works. works)
 
-pub lines_weaker : (c : ShelfChange) (AreLines Are : List (List ℕ) → Bool → List ℕ → Type 0) (Holds : Fault → Type 0) (e : Ending)
+pub lines_weaker : (c : ShelfChange) (AreLines Are : List (List ℕ) → Bool → List ℕ → Type 0) (Holds : ProgramFault → Type 0) (e : Ending)
     → ((lines : List (List ℕ)) (is_refused : Bool) (text : List ℕ) → AreLines lines is_refused text → Are lines is_refused text)
     → AnswersLines c AreLines Holds e → AnswersLines c Are Holds e
 lines_weaker c AreLines Are Holds e right (inl (r, told, status, silent)) =

@@ -1,7 +1,7 @@
 -- The faults of a table are those of the file that it was read from, and by the file of a value table what is told of it is right.
 use Rattle.dob_files.proofs.Common.{◌≡◌, List, false, ℕ, Profile, Setup, ClassTable, IsValueTable, IsRefusal}
 use Rattle.dob_files.proofs.Common.{FailsWhere, ShelfChange, ShelfFault, Answers, AnswersOver, Ending, fault_of_shelf, is_io}
-use Rattle.dob_files.proofs.Common.{HasValueFile, IsFileOf, IsOpeningFault, IsPositionFault, IsShut, IsTextOf, Fault, Table}
+use Rattle.dob_files.proofs.Common.{HasValueFile, IsFileOf, IsOpeningFault, IsPositionFault, IsShut, IsTextOf, ProgramFault, Table}
 use Rattle.dob_dbfile.proofs.Written.{same_files}
 use Rattle.dob_probe.specs.declared.fault.Fault as probing
 use Rattle.dob_shelf.specs.declared.shelf.ShelfFault.TheVariants as shelf_fault
@@ -24,7 +24,7 @@ pub shelf_fault_holds : (Has : List ℕ → Type 0) (lower : ShelfFault) → ((b
 shelf_fault_holds Has lower found = grind (arith, is_shut Has)
 
 -- a fault of opening the file is one of asking for the position of a text
-pub opening_fault_holds : (Has : List ℕ → Type 0) (words : List ℕ) (position : Setup) (fault : Fault) → IsTextOf words position
+pub opening_fault_holds : (Has : List ℕ → Type 0) (words : List ℕ) (position : Setup) (fault : ProgramFault) → IsTextOf words position
     → IsOpeningFault Has fault → IsPositionFault Has words fault
 opening_fault_holds Has words position fault named holds = grind arith
 
@@ -38,19 +38,19 @@ module _ (Has : List ℕ → Type 0) (profile : Profile) (file : HasValueFile Ha
   right_file table is = let so = right_table table is in record { file = is; right = so.0; rules = so.1 }
 
 -- where lines of one kind are of another one
-answers_weaker : (A B : List ℕ → Type 0) (Holds : Fault → Type 0) (e : Ending) → ((lines : List ℕ) → A lines → B lines)
+answers_weaker : (A B : List ℕ → Type 0) (Holds : ProgramFault → Type 0) (e : Ending) → ((lines : List ℕ) → A lines → B lines)
     → Answers A Holds e → Answers B Holds e
 answers_weaker A B Holds e weaker is = grind (arith, weaker)
 
 -- the same over a shelf
-pub over_weaker : (c : ShelfChange) (A B : List ℕ → Type 0) (Holds : Fault → Type 0) (e : Ending) → ((lines : List ℕ) → A lines → B lines)
+pub over_weaker : (c : ShelfChange) (A B : List ℕ → Type 0) (Holds : ProgramFault → Type 0) (e : Ending) → ((lines : List ℕ) → A lines → B lines)
     → AnswersOver c A Holds e → AnswersOver c B Holds e
 over_weaker c A B Holds e weaker =
     answers_weaker (λ lines. A lines × FailsWhere c false) (λ lines. B lines × FailsWhere c false) (λ fault. Holds fault × FailsWhere c (is_io fault)) e
     (λ lines told. (weaker lines told.0, told.1))
 
 -- lines that are told of a value table's file are right
-pub table_right : (file : List ℕ) (AreLines : ClassTable → List ℕ → Type 0) (Holds : (List ℕ → Type 0) → Fault → Type 0) (c : ShelfChange) (e : Ending)
+pub table_right : (file : List ℕ) (AreLines : ClassTable → List ℕ → Type 0) (Holds : (List ℕ → Type 0) → ProgramFault → Type 0) (c : ShelfChange) (e : Ending)
     → AnswersOwed (table_owed file AreLines Holds) c e → (table_owed file AreLines Holds).right c e
 table_right file AreLines Holds c e answers = λ profile right.
     over_weaker c (OfTable (IsFileOf (c.before.has file)) AreLines) (OfTable (IsRightFileOf (c.before.has file) profile) AreLines) (Holds (c.before.has file)) e

@@ -1,8 +1,8 @@
 -- How the program ends: an exit status, and what it writes on standard output and standard error.
 use Rattle.std.specs.Prelude.{◌≡◌, ℕ, ◌⊎◌, false, List, [], ◌∷◌, ◌++◌, codes, Result, Ok, Err, String, string_bytes}
 use Rattle.dob_device.specs.Sinks.{Change, IsUntouched, Puts, Says, Stops}
-use Rattle.dob_files.specs.declared.fault.Fault.{Fault}
-use Rattle.dob_files.specs.declared.fault.Fault.TheVariants.{Memory, Io}
+use Rattle.dob_files.specs.declared.fault.ProgramFault.{ProgramFault}
+use Rattle.dob_files.specs.declared.fault.ProgramFault.TheVariants.{Memory, Io}
 use Rattle.dob_files.specs.Faults.{fault_line, is_io, status_of}
 use Rattle.dob_shelf.specs.Shelves.{FailsWhere, ShelfChange}
 use Rattle.dob_pieces.specs.Bytes.{line_feed}
@@ -17,11 +17,11 @@ abbrev pub ended : ℕ → Change → Change → Ending
 ended status out err = record { status = status; out = out; err = err }
 
 -- the fault's status, and its line on standard error
-abbrev pub TellsFaultAs : Fault → ℕ → Change → Type 0
+abbrev pub TellsFaultAs : ProgramFault → ℕ → Change → Type 0
 TellsFaultAs fault status err = (status ≡ status_of fault) × Says err (fault_line fault)
 
 -- the fault, or that no memory was left for telling it
-abbrev pub TellsOneFault : Fault → ℕ → Change → Type 0
+abbrev pub TellsOneFault : ProgramFault → ℕ → Change → Type 0
 TellsOneFault fault status err = TellsFaultAs fault status err ⊎ TellsFaultAs Memory status err
 
 -- it printed such lines: status 0, the lines on standard output and nothing else
@@ -33,8 +33,8 @@ pub record TellsLines (AreLines : List ℕ → Type 0) (e : Ending) : Type 0 whe
   pub silent : IsUntouched e.err
 
 -- it printed a fault that holds, or that no memory was left for it, and nothing on standard output
-pub record TellsFault (Holds : Fault → Type 0) (e : Ending) : Type 0 where
-  pub fault : Fault
+pub record TellsFault (Holds : ProgramFault → Type 0) (e : Ending) : Type 0 where
+  pub fault : ProgramFault
   pub holds : Holds fault
   pub told : TellsOneFault fault e.status e.err
   pub silent : IsUntouched e.out
@@ -47,21 +47,21 @@ pub record FailsToTell (AreLines : List ℕ → Type 0) (e : Ending) : Type 0 wh
   pub told : TellsOneFault Io e.status e.err
 
 -- what the program does where it owes such lines, or the line of a fault that holds
-abbrev pub Answers : (List ℕ → Type 0) → (Fault → Type 0) → Ending → Type 0
+abbrev pub Answers : (List ℕ → Type 0) → (ProgramFault → Type 0) → Ending → Type 0
 Answers AreLines Holds e = TellsLines AreLines e ⊎ (TellsFault Holds e ⊎ FailsToTell AreLines e)
 
 -- It answers so over a shelf: where it owes lines no call of the shelf failed, and where a fault, one did just where it is a device's.
-abbrev pub AnswersOver : ShelfChange → (List ℕ → Type 0) → (Fault → Type 0) → Ending → Type 0
+abbrev pub AnswersOver : ShelfChange → (List ℕ → Type 0) → (ProgramFault → Type 0) → Ending → Type 0
 AnswersOver c AreLines Holds = Answers (λ lines. AreLines lines × FailsWhere c false) (λ fault. Holds fault × FailsWhere c (is_io fault))
 
 -- A call over a shelf that changes so gave what is right, and no call of the shelf failed; or it gave a fault that holds, and one failed just
 -- where it is a device's.
-abbrev pub GivesOver : {X : Type 0} → ShelfChange → (X → Type 0) → (Fault → Type 0) → Result X Fault → Type 0
+abbrev pub GivesOver : {X : Type 0} → ShelfChange → (X → Type 0) → (ProgramFault → Type 0) → Result X ProgramFault → Type 0
 GivesOver c Is Holds (Ok x) = Is x × FailsWhere c false
 GivesOver c Is Holds (Err fault) = Holds fault × FailsWhere c (is_io fault)
 
 -- the same of a text that has such lines
-abbrev pub GivesLines : {X : Type 0} → ShelfChange → (List ℕ → Type 0) → (Fault → Type 0) → Result (String X) Fault → Type 0
+abbrev pub GivesLines : {X : Type 0} → ShelfChange → (List ℕ → Type 0) → (ProgramFault → Type 0) → Result (String X) ProgramFault → Type 0
 GivesLines c AreLines Holds result = GivesOver c (λ text. AreLines (string_bytes text)) Holds result
 
 -- the text on standard output and that status; or a beginning of it, and the fault of a failing output

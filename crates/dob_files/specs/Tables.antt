@@ -13,8 +13,8 @@ use Rattle.dob_device.specs.Devices.{whole}
 use Rattle.dob_dbfile.specs.Faults as reading
 use Rattle.dob_dbfile.specs.Format.{IsFile}
 use Rattle.dob_probe.specs.Faults.{IsRefusal}
-use Rattle.dob_files.specs.declared.fault.Fault.{Fault}
-use Rattle.dob_files.specs.declared.fault.Fault.TheVariants.{Text, File, Table, Memory, Io}
+use Rattle.dob_files.specs.declared.fault.ProgramFault.{ProgramFault}
+use Rattle.dob_files.specs.declared.fault.ProgramFault.TheVariants.{Text, File, Table, Memory, Io}
 
 -- ---- the file; Has says which bytes it has, where that is known
 
@@ -57,14 +57,14 @@ abbrev pub IsShut : (List ℕ → Type 0) → Type 0
 IsShut Has = (bytes : List ℕ) → ¬ Has bytes
 
 -- a fault of opening the file: one that it has, or it couldn't be opened, or memory failed
-abbrev pub IsOpeningFault : (List ℕ → Type 0) → Fault → Type 0
+abbrev pub IsOpeningFault : (List ℕ → Type 0) → ProgramFault → Type 0
 IsOpeningFault Has (File fault) = HasFileFault Has fault
 IsOpeningFault Has Memory = Unit {0}
 IsOpeningFault Has Io = IsShut Has
 IsOpeningFault Has _ = ⊥
 
 -- a fault of asking a file for a position: the file's, or the table's, E26 before E7; or memory failed, or the file couldn't be opened
-abbrev pub IsProbingFault : (List ℕ → Type 0) → Setup → Fault → Type 0
+abbrev pub IsProbingFault : (List ℕ → Type 0) → Setup → ProgramFault → Type 0
 IsProbingFault Has position (File fault) = HasFileFault Has fault
 IsProbingFault Has position (Table fault) = (table : ClassTable) × IsFileOf Has table × IsRefusal table.family position fault
 IsProbingFault Has position Memory = Unit {0}
@@ -73,7 +73,7 @@ IsProbingFault Has position _ = ⊥
 
 -- A fault of asking for the position of a text: the text's, or memory failed for the words; the file is asked only where the
 -- text is a position's.
-abbrev pub IsPositionFault : (List ℕ → Type 0) → List ℕ → Fault → Type 0
+abbrev pub IsPositionFault : (List ℕ → Type 0) → List ℕ → ProgramFault → Type 0
 IsPositionFault Has words (Text fault) = text.HasTextFault A words fault
 IsPositionFault Has words Memory = Unit {0}
 IsPositionFault Has words fault = (position : Setup) × IsTextOf words position × IsProbingFault Has position fault

@@ -1,11 +1,12 @@
 -- How the answers to the lines of standard input are told, one after the other.
-use Rattle.std.specs.Prelude.{◌≡◌, ◌⊎◌, ◌||◌, ℕ, Bool, true, false, if◌then◌else◌, List, [], ◌∷◌, ◌++◌, None, Option, Some, Result, Ok, Err, flat_map, string_bytes}
+use Rattle.std.specs.Prelude.{◌≡◌, ◌⊎◌, ◌||◌, ℕ, Bool, true, false, if◌then◌else◌, List, [], ◌∷◌, ◌++◌, None, Option, Some, Result, Ok, Err, flat_map}
+use Rattle.std.specs.Prelude.{string_bytes}
 use Rattle.std.specs.List.{concat, list_any}
 use Rattle.std.specs.Str.Lines.{lines as lines_of}
 use Rattle.dob_device.specs.Sinks.{Change, IsUntouched, Puts, SinkState, Stops, change}
 use Rattle.dob_files.specs.declared.talk.LineAnswers.{LineAnswers}
-use Rattle.dob_files.specs.declared.fault.Fault.{Fault}
-use Rattle.dob_files.specs.declared.fault.Fault.TheVariants.{Memory, Io}
+use Rattle.dob_files.specs.declared.fault.ProgramFault.{ProgramFault}
+use Rattle.dob_files.specs.declared.fault.ProgramFault.TheVariants.{Memory, Io}
 use Rattle.dob_files.specs.Endings.{Ending, TellsOneFault}
 use Rattle.dob_files.specs.Faults.{is_io}
 use Rattle.dob_shelf.specs.Shelves.{FailsWhere, ShelfChange, TakesLine}
@@ -53,6 +54,15 @@ AreAllLines input lines = (known : List ℕ) → input ≡ Some known → lines 
 abbrev pub AreFirstLines : Option (List ℕ) → List (List ℕ) → Type 0
 AreFirstLines input lines = (known : List ℕ) → input ≡ Some known → (more : List (List ℕ)) × (lines_of known ≡ lines ++ more)
 
+-- one line was taken of these bytes, where they are known, and those are left
+abbrev pub TakesOne : Option (List ℕ) → Option (List ℕ) → Type 0
+TakesOne input left = (known : List ℕ) → input ≡ Some known → (line : List ℕ) × TakesLine known true line left
+
+-- These are the lines before the one that came to the fault: all that were taken but that one, where those bytes are left. Lack of memory may come before that.
+abbrev pub AreLinesBefore : Option (List ℕ) → Option (List ℕ) → ProgramFault → List (List ℕ) → Type 0
+AreLinesBefore input left fault lines = (known : List ℕ) → input ≡ Some known → (more : List ℕ)
+    × (lines_of known ≡ lines ++ lines_of more) × ((fault ≡ Memory) ⊎ TakesOne (Some more) left)
+
 -- what such lines come to is the text that was told so
 pub record TellsSome (Which : List (List ℕ) → Type 0) (AreLines : List (List ℕ) → Bool → List ℕ → Type 0) (is_refused : Bool)
     (IsToldSo : List ℕ → Type 0) : Type 0 where
@@ -62,18 +72,20 @@ pub record TellsSome (Which : List (List ℕ) → Type 0) (AreLines : List (List
   pub right : AreLines lines is_refused text
   pub told : IsToldSo text
 
--- What the lines of standard input come to was told, all of it, and the answer is whether one was refused. Or there is a fault: one that holds, behind nothing
--- or what the first lines come to, or standard output failed in that. What else holds where nothing but standard output failed is Works.
-abbrev pub TellsEach : Option (List ℕ) → (List (List ℕ) → Bool → List ℕ → Type 0) → (Fault → Type 0) → Type 0 → Change → Result Bool Fault → Type 0
-TellsEach input AreLines Holds Works out (Ok is_refused) = TellsSome (AreAllLines input) AreLines is_refused (PutsText out) × Works
-TellsEach input AreLines Holds Works out (Err fault) =
-    (Holds fault
-    × (IsUntouched out ⊎ ((is_refused : Bool) × TellsSome (AreFirstLines input) AreLines is_refused (λ text. PutsText out text ⊎ StopsText out text))))
+-- What the lines of standard input come to was told, all of it, and the answer is whether one was refused. Or there is a fault: one that holds, before any line
+-- was taken, or behind what all lines before it come to, or standard output failed in that. After it those bytes are left. What else holds where nothing but
+-- standard output failed is Works.
+abbrev pub TellsEach : Option (List ℕ) → Option (List ℕ) → (List (List ℕ) → Bool → List ℕ → Type 0) → (ProgramFault → Type 0) → Type 0 → Change
+    → Result Bool ProgramFault → Type 0
+TellsEach input left AreLines Holds Works out (Ok is_refused) = TellsSome (AreAllLines input) AreLines is_refused (PutsText out) × Works
+TellsEach input left AreLines Holds Works out (Err fault) =
+    (Holds fault × ((IsUntouched out × (left ≡ input)) ⊎ ((is_refused : Bool)
+    × TellsSome (AreLinesBefore input left fault) AreLines is_refused (λ text. PutsText out text ⊎ StopsText out text))))
     ⊎ ((fault ≡ Io) × ((is_refused : Bool) × TellsSome (AreFirstLines input) AreLines is_refused (StopsText out)) × Works)
 
 -- the same over a shelf: no call of it failed, or one did just where the fault is a device's
-abbrev pub TellsOver : ShelfChange → (List (List ℕ) → Bool → List ℕ → Type 0) → (Fault → Type 0) → Change → Result Bool Fault → Type 0
-TellsOver c AreLines Holds = TellsEach c.before.input AreLines (λ fault. Holds fault × FailsWhere c (is_io fault)) (FailsWhere c false)
+abbrev pub TellsOver : ShelfChange → (List (List ℕ) → Bool → List ℕ → Type 0) → (ProgramFault → Type 0) → Change → Result Bool ProgramFault → Type 0
+TellsOver c AreLines Holds = TellsEach c.before.input c.after.input AreLines (λ fault. Holds fault × FailsWhere c (is_io fault)) (FailsWhere c false)
 
 -- ---- what the program does
 
@@ -82,10 +94,10 @@ abbrev pub status_of_lines : Bool → ℕ
 status_of_lines is_refused = if is_refused then 1 else 0
 
 -- it tells all of that and nothing else, with the status that goes with it; or its fault, behind what it told
-abbrev pub AnswersLines : ShelfChange → (List (List ℕ) → Bool → List ℕ → Type 0) → (Fault → Type 0) → Ending → Type 0
+abbrev pub AnswersLines : ShelfChange → (List (List ℕ) → Bool → List ℕ → Type 0) → (ProgramFault → Type 0) → Ending → Type 0
 AnswersLines c AreLines Holds e =
     ((is_refused : Bool) × TellsOver c AreLines Holds e.out (Ok is_refused) × (e.status ≡ status_of_lines is_refused) × IsUntouched e.err)
-    ⊎ ((fault : Fault) × TellsOver c AreLines Holds e.out (Err fault) × TellsOneFault fault e.status e.err)
+    ⊎ ((fault : ProgramFault) × TellsOver c AreLines Holds e.out (Err fault) × TellsOneFault fault e.status e.err)
 
 -- ---- what is held
 
@@ -125,5 +137,5 @@ HearsLine Is input left old new true =
 HearsLine Is input left old new false = ((known : List ℕ) → input ≡ Some known → known ≡ []) × (new ≡ old)
 
 -- a fault that ends all: by Ends one that a line came to, or memory failed, or standard input did, of which nothing was known
-abbrev pub EndsLines : (Fault → Type 0) → Option (List ℕ) → Fault → Type 0
+abbrev pub EndsLines : (ProgramFault → Type 0) → Option (List ℕ) → ProgramFault → Type 0
 EndsLines Ends input fault = Ends fault ⊎ ((fault ≡ Memory) ⊎ ((fault ≡ Io) × (input ≡ None)))

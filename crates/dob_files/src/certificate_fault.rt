@@ -1,8 +1,8 @@
 // The faults of certificates, their lines and their exit statuses.
 ghost use Rattle.std.specs.Prelude.{◌≡◌, Some};
-ghost use Rattle.dob_files.specs.declared.fault.Fault.TheVariants as fault;
+ghost use Rattle.dob_files.specs.declared.fault.ProgramFault.TheVariants as fault;
 
-use crate::fault::Fault;
+use crate::fault::ProgramFault;
 use dob_certfile::{Defect, ReadFault, WriteFault};
 use dob_certificate::{Refusal, TooMany};
 use std::fmt;
@@ -53,25 +53,27 @@ impl fmt::Display for CertificateFault {
     }
 }
 
-impl From<ReadFault> for Fault {
+impl From<ReadFault> for ProgramFault {
     ghost use Rattle.dob_files.specs.Faults.{fault_of_reading};
 
     ghost from_gives = { λ given result. result ≡ fault_of_reading given };
 
-    fn from(given: ReadFault) -> Fault {
+    fn from(given: ReadFault) -> ProgramFault {
         match given {
-            ReadFault::Memory => Fault::Memory,
-            ReadFault::Defect(defect) => Fault::Certificate(CertificateFault::Defect(defect)),
+            ReadFault::Memory => ProgramFault::Memory,
+            ReadFault::Defect(defect) => ProgramFault::Certificate(CertificateFault::Defect(
+                defect,
+            )),
         }
     }
 }
 
-impl From<Refusal> for Fault {
+impl From<Refusal> for ProgramFault {
     ghost use Rattle.dob_files.specs.Faults.{fault_of_refusal};
 
     ghost from_gives = { λ given result. result ≡ fault_of_refusal given };
 
-    fn from(given: Refusal) -> Fault {
-        Fault::Certificate(CertificateFault::Unproved(given))
+    fn from(given: Refusal) -> ProgramFault {
+        ProgramFault::Certificate(CertificateFault::Unproved(given))
     }
 }

@@ -1,6 +1,6 @@
 // The faults of the program, their lines and their exit statuses.
 ghost use Rattle.std.specs.Prelude.{◌≡◌, Some};
-ghost use Rattle.dob_files.specs.declared.fault.Fault.TheVariants as fault;
+ghost use Rattle.dob_files.specs.declared.fault.ProgramFault.TheVariants as fault;
 
 use crate::certificate_fault::CertificateFault;
 use dob_pieces::{Memory, SetText};
@@ -11,7 +11,7 @@ use std::fmt;
 
 /// Why the program refuses what it is asked, or fails at it.
 #[derive(Clone, Copy, Debug)]
-pub enum Fault {
+pub enum ProgramFault {
     /// E1 to E6, E26: the text isn't a position's of the profile.
     Text(TextFault),
     /// E25: the text isn't a piece set's.
@@ -19,7 +19,7 @@ pub enum Fault {
     /// E12: a distance would be above 65,534 plies.
     TooDeep,
     /// E9, E14, E23: the build isn't begun, or it was stopped.
-    Run(dob_stops::Fault),
+    Run(dob_share::BuildFault),
     /// E15 to E20, E23, E24, E27: the file isn't one of a table, or reading or writing it failed.
     File(dob_dbfile::Fault),
     /// E7, E21, E23, E26: the table has no answer.
@@ -35,9 +35,9 @@ pub enum Fault {
 }
 
 /// The lines of an answer, or why there are none.
-pub type Answer = Result<String, Fault>;
+pub type Answer = Result<String, ProgramFault>;
 
-impl Fault {
+impl ProgramFault {
     ghost use Rattle.dob_files.specs.Faults.{is_io, status_of};
 
     /// The exit status: 1 if what was asked is refused, 2 if the words make no sense, 3 if the program failed.
@@ -45,16 +45,18 @@ impl Fault {
         ensures { result ≡ status_of self }
     {
         match self {
-            Fault::Text(_) | Fault::SetText => 1,
-            Fault::PuzzlePlies => 2,
-            Fault::Certificate(fault) => fault.status(),
-            Fault::TooDeep | Fault::Memory | Fault::Io => 3,
-            Fault::Run(dob_stops::Fault::Stopped { .. } | dob_stops::Fault::Memory) => 3,
-            Fault::Run(_) => 1,
-            Fault::File(dob_dbfile::Fault::Memory | dob_dbfile::Fault::Io(_)) => 3,
-            Fault::File(_) => 1,
-            Fault::Table(dob_probe::Fault::Memory) => 3,
-            Fault::Table(_) => 1,
+            ProgramFault::Text(_) | ProgramFault::SetText => 1,
+            ProgramFault::PuzzlePlies => 2,
+            ProgramFault::Certificate(fault) => fault.status(),
+            ProgramFault::TooDeep | ProgramFault::Memory | ProgramFault::Io => 3,
+            ProgramFault::Run(
+                dob_share::BuildFault::Stopped { .. } | dob_share::BuildFault::Memory,
+            ) => 3,
+            ProgramFault::Run(_) => 1,
+            ProgramFault::File(dob_dbfile::Fault::Memory | dob_dbfile::Fault::Io(_)) => 3,
+            ProgramFault::File(_) => 1,
+            ProgramFault::Table(dob_probe::Fault::Memory) => 3,
+            ProgramFault::Table(_) => 1,
         }
     }
 
@@ -63,140 +65,144 @@ impl Fault {
         ensures { result ≡ is_io self }
     {
         match self {
-            Fault::Io | Fault::File(dob_dbfile::Fault::Io(_)) => true,
-            Fault::File(_) => false,
-            Fault::Text(_) | Fault::SetText | Fault::TooDeep | Fault::Run(_) | Fault::Table(_) =>
+            ProgramFault::Io | ProgramFault::File(dob_dbfile::Fault::Io(_)) => true,
+            ProgramFault::File(_) => false,
+            ProgramFault::Text(_)
+            | ProgramFault::SetText
+            | ProgramFault::TooDeep
+            | ProgramFault::Run(_)
+            | ProgramFault::Table(_) => false,
+            ProgramFault::PuzzlePlies | ProgramFault::Certificate(_) | ProgramFault::Memory =>
                 false,
-            Fault::PuzzlePlies | Fault::Certificate(_) | Fault::Memory => false,
         }
     }
 }
 
-impl fmt::Display for Fault {
+impl fmt::Display for ProgramFault {
     ghost use Rattle.dob_files.specs.Faults.{fault_text};
 
     ghost output = { λ fault. Some (fault_text fault) };
 
     fn fmt<W: fmt::Write>(&self, f: &mut fmt::Formatter<W>) -> fmt::Result {
         match self {
-            Fault::Text(fault) => write!(f, "{fault}"),
-            Fault::SetText => write!(f, "{SetText}"),
-            Fault::TooDeep => write!(f, "{}", dob_value::Fault::TooDeep),
-            Fault::Run(fault) => write!(f, "{fault}"),
-            Fault::File(fault) => write!(f, "{fault}"),
-            Fault::Table(fault) => write!(f, "{fault}"),
-            Fault::PuzzlePlies => write!(f, "--plies is an odd number of at least 3"),
-            Fault::Certificate(fault) => write!(f, "{fault}"),
-            Fault::Memory => write!(f, "{Memory}"),
-            Fault::Io => write!(f, "{}", dob_dbfile::Fault::Io(0)),
+            ProgramFault::Text(fault) => write!(f, "{fault}"),
+            ProgramFault::SetText => write!(f, "{SetText}"),
+            ProgramFault::TooDeep => write!(f, "{}", dob_value::Fault::TooDeep),
+            ProgramFault::Run(fault) => write!(f, "{fault}"),
+            ProgramFault::File(fault) => write!(f, "{fault}"),
+            ProgramFault::Table(fault) => write!(f, "{fault}"),
+            ProgramFault::PuzzlePlies => write!(f, "--plies is an odd number of at least 3"),
+            ProgramFault::Certificate(fault) => write!(f, "{fault}"),
+            ProgramFault::Memory => write!(f, "{Memory}"),
+            ProgramFault::Io => write!(f, "{}", dob_dbfile::Fault::Io(0)),
         }
     }
 }
 
-impl Error for Fault {}
+impl Error for ProgramFault {}
 
-impl From<TextFault> for Fault {
+impl From<TextFault> for ProgramFault {
     ghost from_gives = { λ given result. result ≡ fault.Text given };
 
-    fn from(given: TextFault) -> Fault {
-        Fault::Text(given)
+    fn from(given: TextFault) -> ProgramFault {
+        ProgramFault::Text(given)
     }
 }
 
-impl From<SetText> for Fault {
+impl From<SetText> for ProgramFault {
     ghost from_gives = { λ _ result. result ≡ fault.SetText };
 
-    fn from(_given: SetText) -> Fault {
-        Fault::SetText
+    fn from(_given: SetText) -> ProgramFault {
+        ProgramFault::SetText
     }
 }
 
-impl From<dob_value::Fault> for Fault {
+impl From<dob_value::Fault> for ProgramFault {
     ghost use Rattle.dob_files.specs.Faults.{fault_of_value};
 
     ghost from_gives = { λ given result. result ≡ fault_of_value given };
 
-    fn from(given: dob_value::Fault) -> Fault {
+    fn from(given: dob_value::Fault) -> ProgramFault {
         match given {
-            dob_value::Fault::TooDeep => Fault::TooDeep,
-            dob_value::Fault::Memory => Fault::Memory,
+            dob_value::Fault::TooDeep => ProgramFault::TooDeep,
+            dob_value::Fault::Memory => ProgramFault::Memory,
         }
     }
 }
 
-impl From<dob_stops::Fault> for Fault {
+impl From<dob_share::BuildFault> for ProgramFault {
     ghost from_gives = { λ given result. result ≡ fault.Run given };
 
-    fn from(given: dob_stops::Fault) -> Fault {
-        Fault::Run(given)
+    fn from(given: dob_share::BuildFault) -> ProgramFault {
+        ProgramFault::Run(given)
     }
 }
 
-impl From<dob_dbfile::Fault> for Fault {
+impl From<dob_dbfile::Fault> for ProgramFault {
     ghost from_gives = { λ given result. result ≡ fault.File given };
 
-    fn from(given: dob_dbfile::Fault) -> Fault {
-        Fault::File(given)
+    fn from(given: dob_dbfile::Fault) -> ProgramFault {
+        ProgramFault::File(given)
     }
 }
 
-impl From<dob_probe::Fault> for Fault {
+impl From<dob_probe::Fault> for ProgramFault {
     ghost from_gives = { λ given result. result ≡ fault.Table given };
 
-    fn from(given: dob_probe::Fault) -> Fault {
-        Fault::Table(given)
+    fn from(given: dob_probe::Fault) -> ProgramFault {
+        ProgramFault::Table(given)
     }
 }
 
-impl From<dob_probe::LookupFault<dob_dbfile::Fault>> for Fault {
+impl From<dob_probe::LookupFault<dob_dbfile::Fault>> for ProgramFault {
     ghost use Rattle.dob_files.specs.Faults.{fault_of_records};
 
     ghost from_gives = { λ given result. result ≡ fault_of_records given };
 
-    fn from(given: dob_probe::LookupFault<dob_dbfile::Fault>) -> Fault {
+    fn from(given: dob_probe::LookupFault<dob_dbfile::Fault>) -> ProgramFault {
         match given {
-            dob_probe::LookupFault::NoValue(fault) => Fault::File(fault),
-            dob_probe::LookupFault::Inconsistent(class) => Fault::Table(
+            dob_probe::LookupFault::NoValue(fault) => ProgramFault::File(fault),
+            dob_probe::LookupFault::Inconsistent(class) => ProgramFault::Table(
                 dob_probe::Fault::Inconsistent(class),
             ),
-            dob_probe::LookupFault::Memory => Fault::Memory,
+            dob_probe::LookupFault::Memory => ProgramFault::Memory,
         }
     }
 }
 
-impl From<dob_probe::LookupFault<dob_probe::Fault>> for Fault {
+impl From<dob_probe::LookupFault<dob_probe::Fault>> for ProgramFault {
     ghost use Rattle.dob_files.specs.Faults.{fault_of_table};
 
     ghost from_gives = { λ given result. result ≡ fault_of_table given };
 
-    fn from(given: dob_probe::LookupFault<dob_probe::Fault>) -> Fault {
+    fn from(given: dob_probe::LookupFault<dob_probe::Fault>) -> ProgramFault {
         match given {
-            dob_probe::LookupFault::NoValue(fault) => Fault::Table(fault),
-            dob_probe::LookupFault::Inconsistent(class) => Fault::Table(
+            dob_probe::LookupFault::NoValue(fault) => ProgramFault::Table(fault),
+            dob_probe::LookupFault::Inconsistent(class) => ProgramFault::Table(
                 dob_probe::Fault::Inconsistent(class),
             ),
-            dob_probe::LookupFault::Memory => Fault::Memory,
+            dob_probe::LookupFault::Memory => ProgramFault::Memory,
         }
     }
 }
 
-impl From<ShelfFault> for Fault {
+impl From<ShelfFault> for ProgramFault {
     ghost use Rattle.dob_files.specs.Faults.{fault_of_shelf};
 
     ghost from_gives = { λ given result. result ≡ fault_of_shelf given };
 
-    fn from(given: ShelfFault) -> Fault {
+    fn from(given: ShelfFault) -> ProgramFault {
         match given {
-            ShelfFault::Memory => Fault::Memory,
-            ShelfFault::Failed => Fault::Io,
+            ShelfFault::Memory => ProgramFault::Memory,
+            ShelfFault::Failed => ProgramFault::Io,
         }
     }
 }
 
-impl From<Memory> for Fault {
+impl From<Memory> for ProgramFault {
     ghost from_gives = { λ _ result. result ≡ fault.Memory };
 
-    fn from(_lower: Memory) -> Fault {
-        Fault::Memory
+    fn from(_lower: Memory) -> ProgramFault {
+        ProgramFault::Memory
     }
 }

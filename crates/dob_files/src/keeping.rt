@@ -7,7 +7,7 @@ ghost use Rattle.dob_shelf.specs.Shelves.{Leaving, SameOthers};
 ghost use Rattle.dob_files.specs.Faults.{is_io};
 ghost use Rattle.dob_files.specs.Keeping.{AreThese, FillsSink, IsShelfFault, IsWritingFault, KeepsFilled};
 
-use crate::fault::{Answer, Fault};
+use crate::fault::{Answer, ProgramFault};
 use dob_dbfile::{FailedAfter, Sink, put_all, write_digested};
 use dob_shelf::Shelf;
 use dob_value::Table;
@@ -55,6 +55,6 @@ pub fn fill<D: Sink>(sink: &mut D, bytes: &[u8], lines: String) -> Answer
 {
     match put_all(sink, bytes) {
         Ok(()) => Ok(lines),
-        Err(FailedAfter { .. }) => Err(Fault::Io),
+        Err(FailedAfter { .. }) => Err(ProgramFault::Io),
     }
 }

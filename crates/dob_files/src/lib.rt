@@ -15,7 +15,7 @@ mod tables;
 mod talk;
 
 pub use certificate_fault::CertificateFault;
-pub use fault::{Answer, Fault};
+pub use fault::{Answer, ProgramFault};
 pub use keeping::{fill, fill_with_table, keep_filled};
 pub use positions::{file_and_position, position_in_line, position_named};
 pub use tables::open;

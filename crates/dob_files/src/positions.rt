@@ -6,7 +6,7 @@ ghost use Rattle.dob_shelf.specs.Shelves.{Leaving, SameFiles};
 ghost use Rattle.dob_files.specs.Endings.{GivesOver};
 ghost use Rattle.dob_files.specs.Tables.{AreAsked, IsPositionFault, IsTextOf};
 
-use crate::fault::Fault;
+use crate::fault::ProgramFault;
 use crate::tables::open;
 use dob_pieces::{Position, Profile};
 use dob_shelf::Shelf;
@@ -20,7 +20,7 @@ pub fn file_and_position<S: Shelf>(
     shelf: &mut S,
     file: &str,
     text: &str,
-) -> Result<(Table, Position), Fault>
+) -> Result<(Table, Position), ProgramFault>
     ensures { Leaving SameFiles S.state shelf.old shelf.new (λ c.
         GivesOver c (λ asked. AreAsked (c.before.has file.now) text.now asked.0 asked.1.setup) (IsPositionFault (c.before.has file.now) text.now) result) }
 {

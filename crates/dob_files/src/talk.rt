@@ -1,14 +1,14 @@
 // The lines of standard input and what they come to: each is answered and told before the next one is waited for.
-ghost use Rattle.std.specs.Prelude.{◌≡◌, ◌<◌, ◌||◌, ◌++◌, ℕ, List, [], Bool, false, IfErr, IfOk, OnErr, OnOk, length, string_bytes};
+ghost use Rattle.std.specs.Prelude.{◌≡◌, ◌⊎◌, ◌<◌, ◌||◌, ◌++◌, ℕ, List, [], Bool, false, IfErr, IfOk, OnErr, OnOk, length, string_bytes};
 ghost use Rattle.dob_dbfile.specs.Faults.{fails};
 ghost use Rattle.dob_device.specs.Sinks.{Stops, change};
-ghost use Rattle.dob_files.specs.declared.fault.Fault.{Fault as TheFault};
-ghost use Rattle.dob_files.specs.declared.fault.Fault.TheVariants.{Io};
+ghost use Rattle.dob_files.specs.declared.fault.ProgramFault.{ProgramFault as TheFault};
+ghost use Rattle.dob_files.specs.declared.fault.ProgramFault.TheVariants.{Io};
 ghost use Rattle.dob_files.specs.Faults.{is_io};
-ghost use Rattle.dob_files.specs.Telling.{EndsLines, HearsLine, PutsText, TellsEach, TellsOf, Told, most_held, told_of};
+ghost use Rattle.dob_files.specs.Telling.{EndsLines, HearsLine, PutsText, TakesOne, TellsEach, TellsOf, Told, most_held, told_of};
 ghost use Rattle.dob_shelf.specs.Shelves.{SameFiles};
 
-use crate::fault::Fault;
+use crate::fault::ProgramFault;
 use dob_dbfile::{FailedAfter, Sink, put_all};
 use dob_pieces::Memory;
 use dob_shelf::Shelf;
@@ -33,7 +33,7 @@ pub trait Answerer {
     /// # Errors
     ///
     /// A fault that ends all.
-    fn answer(&mut self, alloc: Global, line: &[u8]) -> Result<LineAnswers, Fault>
+    fn answer(&mut self, alloc: Global, line: &[u8]) -> Result<LineAnswers, ProgramFault>
         ensures told { IfOk result (λ told. answers self.old line.now (told_of told)) }
         ensures ended { IfErr result (ends self.old) }
         ensures before { (line : List ℕ) (told : Told) → answers self.new line told → answers self.old line told }
@@ -49,7 +49,7 @@ pub struct LineAnswers {
 }
 
 impl LineAnswers {
-    // Nothing.
+    // No lines, of a line that isn't refused.
     fn none(alloc: Global) -> LineAnswers
         ensures lines { string_bytes result.lines ≡ [] }
         ensures refused { result.is_refused ≡ false }
@@ -72,7 +72,7 @@ impl LineAnswers {
     }
 
     // Tells it, and holds nothing from then on.
-    fn tell<O: Sink>(&mut self, out: &mut O) -> Result<(), Fault>
+    fn tell<O: Sink>(&mut self, out: &mut O) -> Result<(), ProgramFault>
         ensures done { OnOk result (PutsText (change (O.state out.old) (O.state out.new)) (string_bytes self.old.lines)) }
         ensures part { IfErr result (λ fault. (fault ≡ Io) × Stops (change (O.state out.old) (O.state out.new)) (string_bytes self.old.lines)) }
         ensures none { string_bytes self.new.lines ≡ [] }
@@ -85,12 +85,12 @@ impl LineAnswers {
         self.lines.clear();
         match told {
             Ok(()) => Ok(()),
-            Err(FailedAfter { .. }) => Err(Fault::Io),
+            Err(FailedAfter { .. }) => Err(ProgramFault::Io),
         }
     }
 
     // Tells it where the next line isn't at hand, or where it is much.
-    fn tell_ahead<O: Sink>(&mut self, is_at_hand: bool, out: &mut O) -> Result<(), Fault>
+    fn tell_ahead<O: Sink>(&mut self, is_at_hand: bool, out: &mut O) -> Result<(), ProgramFault>
         ensures done { OnOk result ((told : List ℕ) × PutsText (change (O.state out.old) (O.state out.new)) told
             × (string_bytes self.old.lines ≡ told ++ string_bytes self.new.lines)) }
         ensures part { IfErr result (λ fault. (fault ≡ Io) × Stops (change (O.state out.old) (O.state out.new)) (string_bytes self.old.lines)) }
@@ -112,9 +112,9 @@ pub fn tell_each<T: Answerer, S: Shelf, O: Sink>(
     by: &mut T,
     shelf: &mut S,
     out: &mut O,
-) -> Result<bool, Fault>
+) -> Result<bool, ProgramFault>
     requires { T.has_failed by.old ≡ false }
-    ensures told { TellsEach (S.state shelf.old).input (TellsOf (T.answers by.old))
+    ensures told { TellsEach (S.state shelf.old).input (S.state shelf.new).input (TellsOf (T.answers by.old))
         (λ fault. EndsLines (T.ends by.old) (S.state shelf.old).input fault
         × (((S.state shelf.new).has_failed || T.has_failed by.new) ≡ ((S.state shelf.old).has_failed || is_io fault)))
         (((S.state shelf.new).has_failed || T.has_failed by.new) ≡ ((S.state shelf.old).has_failed || false))
@@ -139,20 +139,22 @@ pub fn tell_each<T: Answerer, S: Shelf, O: Sink>(
         }
     }
     let _told = held.tell(out);
-    Err(Fault::Memory)
+    Err(ProgramFault::Memory)
 }
 
-// Answers the next line, behind what is held, which is little. `false` if there is none.
+// Answers the next line, behind what is held, which is little, and nothing where that line has to be waited for. `false` if there is none.
 fn hear_next<T: Answerer, S: Shelf>(
     alloc: Global,
     by: &mut T,
     shelf: &mut S,
     line: &mut Vec<u8>,
     held: &mut LineAnswers,
-) -> Result<bool, Fault>
-    requires { length (string_bytes held.old.lines) < most_held }
+) -> Result<bool, ProgramFault>
+    requires few { length (string_bytes held.old.lines) < most_held }
+    requires waits { (S.state shelf.old).has_line ≡ false → string_bytes held.old.lines ≡ [] }
     ensures heard { IfOk result (HearsLine (T.answers by.old) (S.state shelf.old).input (S.state shelf.new).input (told_of held.old) (told_of held.new)) }
     ensures ended { IfErr result (EndsLines (T.ends by.old) (S.state shelf.old).input) }
+    ensures taken { IfErr result (λ fault. (fault ≡ ProgramFault.Memory) ⊎ TakesOne (S.state shelf.old).input (S.state shelf.new).input) }
     ensures held { OnErr result (told_of held.new ≡ told_of held.old) }
     ensures before { (line : List ℕ) (told : Told) → T.answers by.new line told → T.answers by.old line told }
     ensures ending { (fault : TheFault) → T.ends by.new fault → T.ends by.old fault }

@@ -45,7 +45,6 @@ pub fn cell_of(number: u8) -> Option<Option<Piece>>
     }
 }
 
-// The kind of that number.
 fn kind_of(number: u8) -> Kind
     requires { number < 5 }
     ensures { kind_number result ≡ number }

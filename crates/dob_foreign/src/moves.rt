@@ -49,14 +49,12 @@ pub fn shown_step(played: Move) -> DobutsuStep
 // Where a piece that is dropped comes from.
 const HAND: u32 = 12;
 
-// The number of a square.
 fn square_number(square: Square) -> u32
     ensures { result ≡ square }
 {
     square.index() as u32
 }
 
-/// The number of a kind.
 pub(crate) fn kind_number(kind: Kind) -> u32
     ensures number { result ≡ kind_number kind }
     ensures bound { result ≤ 4 }

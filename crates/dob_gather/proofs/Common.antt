@@ -15,7 +15,7 @@ pub use Rattle.dob_distance.specs.declared.value.Value.{Value}
 pub use Rattle.dob_share.specs.Owners.{owner_of}
 pub use Rattle.dob_share.specs.Shares.{HasValueNow}
 pub use Rattle.dob_share.specs.declared.share.Share.{Share}
-pub use Rattle.dob_lawful.proofs.Rest.{below_owner}
+pub use Rattle.dob_history.proofs.Rest.{below_owner}
 pub use Rattle.dob_gather.specs.Owners.{AreOwners, AreShownBelow, IsCodeShown}
 pub use Rattle.dob_gather.specs.Owners.{IsShownByOwner}
 pub use Rattle.dob_gather.specs.Gathering.{AreHashed}

@@ -3,7 +3,7 @@ use Rattle.std.specs.Prelude.{◌≡◌, ℕ, ◌+◌, List, length, Some, slice
 use Rattle.dob_pieces.specs.declared.profile.Family.{Family}
 use Rattle.dob_rank.specs.Families.{class_setup}
 use Rattle.dob_share.specs.declared.opening.Opening.{Opening}
-use Rattle.dob_lawful.specs.Openings.{IsOpening}
+use Rattle.dob_history.specs.Openings.{IsOpening}
 
 -- the items found of the classes from a number on, below another, in their order
 pub record AreFrom {X : Type 0} (IsFound : ℕ → X → Type 0) (first upto : ℕ) (items : List X) : Type 0 where

@@ -1,12 +1,12 @@
 // What is known of each class before anything is settled, by several threads.
 ghost use Rattle.std.specs.Prelude.{◌<◌, ◌≤◌, IfOk};
 ghost use Rattle.dob_rank.specs.Families.{class_setup, classes_of};
-ghost use Rattle.dob_lawful.specs.Openings.{IsOpening, AreOpenings};
+ghost use Rattle.dob_history.specs.Openings.{IsOpening, AreOpenings};
 ghost use Rattle.dob_gather.specs.Scans.{AreOpeningsFrom};
 
 use crate::gathering::AT_A_TIME;
 use dob_classes::Classes;
-use dob_lawful::opening_in;
+use dob_history::opening_in;
 use dob_lists::{SegmentLength, Segments};
 use dob_pieces::Memory;
 use dob_share::Opening;

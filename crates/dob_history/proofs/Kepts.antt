@@ -8,7 +8,6 @@ use Rattle.dob_history.proofs.Stored.{seen, count_is}
 use Rattle.dob_history.proofs.Starts.{parities_same, parities_changed, entry_now}
 
 -- ---- what is not refused fits
-
 sure_within : (plies : ℕ) (least : Option ℕ) → ¬ ¬ KnowsLossWithin plies least → KnowsLossWithin plies least
 sure_within plies None sure = absurd (sure (λ none. none))
 sure_within plies (Some least) sure = grind arith
@@ -43,17 +42,16 @@ pub same_history : (history : HistoryView) → history ≡ record history { sett
 same_history history = ap (λ (xs : List Settlement). record history { settlements = xs }) (sym (append-nil history.settlements))
 
 -- ---- the same classes
-
 same_owned : (old new : Share) → SameClasses old new → (class : ℕ) → IsOwn new class → IsOwn old class
 unfolding IsOwn places_of
 same_owned old new same class own = rw (same.nodes, same.id, same.places) at own
 
 -- ---- an item that is applied is taken
-
-pub taken_by : (share after : Share) (item : Item) (given : Option Settlement) (history grown : HistoryView) → IsApplication share item (Ok given) after →
+pub taken_by : (share after : Share) (item : Item) (given : Option Settlement) (history grown : HistoryView) → HasItemEntries item → IsApplication share item (Ok given) after →
     grown ≡ record history { settlements = history.settlements ++ listed given; room = grown.room } → IsTaken item share after history grown
-taken_by share after item given history grown applied is = record {
+taken_by share after item given history grown entries applied is = record {
   fits = sure_fits share item (λ no. let e = applied.contradiction.1 no in cc);
+  entries = entries;
   classes = applied.classes;
   cell = applied.cell;
   others = applied.others;
@@ -77,7 +75,7 @@ news_seen n id room count starts stored {view = view} all is s news =
     (subst (λ (v : HistoryView). IsNews v.n v.id (length view.settlements) s) (sym is) news)
 
 module _ (family : Family) (n id : ℕ) (share after : Share) (history grown : HistoryView) (item : Item) (kept : AreKept family n id share history)
-    (entries : HasItemEntries item) (taken : IsTaken item share after history grown) where
+    (taken : IsTaken item share after history grown) where
   own : IsOwn share item.to
   own = fits_own share item taken.fits
 
@@ -85,7 +83,7 @@ module _ (family : Family) (n id : ℕ) (share after : Share) (history grown : H
   mine = (kept.owned item.to).0 own
 
   parities_there : HasParities (cell_at after item.to)
-  parities_there = parities_same taken.cell (parities_changed item.was item.now (cell_at share item.to) entries.0 entries.1 (kept.parities item.to own))
+  parities_there = parities_same taken.cell (parities_changed item.was item.now (cell_at share item.to) taken.entries.0 taken.entries.1 (kept.parities item.to own))
 
   parities_all : (class : ℕ) → IsOwn after class → HasParities (cell_at after class)
   parities_all class own_after = elim (cases_eq class item.to) [

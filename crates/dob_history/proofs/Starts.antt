@@ -36,7 +36,6 @@ pub entry_now : (share : Share) (class : ℕ) (v : Value) → IsOwn share class 
 entry_now share class v own known is = entry_by (status_at share class) (cell_at share class) v known (cell_short share class own) is
 
 -- ---- the settlements
-
 one_settles : (status : Status) (number class : ℕ) → settles status ≡ length (opening_settlement number class (opening_value status))
 one_settles status number class = grind arith
 
@@ -78,7 +77,6 @@ pub starts_length : (n id : ℕ) (starts : StatusesView) → length (starts_of n
 starts_length n id starts = start_length (start_status starts) n id starts.places
 
 -- ---- which they are
-
 pub starts_are : (here status : ℕ → Status) (n id k : ℕ) → ((place : ℕ) → place < k → here place ≡ status (class_of_place n id place)) →
     start_settlements here n id k ≡ opening_settlements status n id k
 starts_are here status n id zero same = refl
@@ -120,7 +118,6 @@ pub start_entry : (status : Status) (now : Value) → opening_value status ≡ S
 start_entry status now is = grind arith
 
 -- ---- on which level they are
-
 level_once : (status : Status) (now : Value) → opening_value status ≡ Some now → max (plies_of now) 1 ≡ 1
 level_once status now is = grind arith
 

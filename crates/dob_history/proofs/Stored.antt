@@ -56,7 +56,6 @@ class_again class n id some own =
     omega arith
 
 -- ---- what is seen of a history
-
 abbrev pub seen : ℕ → ℕ → ℕ → StatusesView → List Stored → HistoryView
 seen n id room starts stored = record { id = id; n = n; settlements = settlements_of n id starts stored; room = room }
 

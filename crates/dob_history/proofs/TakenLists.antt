@@ -1,30 +1,22 @@
 -- Items taken one after the other, whose classes were looked at before.
-use Rattle.dob_history.proofs.Common.{◌%◌, ◌++◌, ◌+◌, ◌<◌, ◌∙◌, ◌∷◌, ◌≡◌, ◌≢◌, ◌≤◌, All, All-drop, All-take, AreKept, AreSeen, AreTaken, AreTakenBefore}
-use Rattle.dob_history.proofs.Common.{Cause, Err, Family, HasItemEntries, HistoryView, IfErr, IsErrAnd, IsHistory, IsReason, IsSeen, IsTaken, Item, List}
-use Rattle.dob_history.proofs.Common.{Draw, Ok, OnOk, StayKept, Option, Result, Share, StopsAt, StopsFirst, TakesFirst, [], add-one, ap, append_assoc, arith, cases_eq}
+use Rattle.dob_history.proofs.Common.{◌%◌, ◌++◌, ◌+◌, ◌<◌, ◌∙◌, ◌∷◌, ◌≡◌, ◌≢◌, ◌≤◌, AreKept, AreSeen, AreTaken, AreTakenBefore}
+use Rattle.dob_history.proofs.Common.{Cause, Err, Family, HistoryView, IfErr, IsErrAnd, IsHistory, IsReason, IsSeen, IsTaken, Item, List}
+use Rattle.dob_history.proofs.Common.{Draw, Ok, OnOk, StayKept, Option, Result, Share, StopsAt, StopsFirst, TakesFirst, [], add-one, ap, arith, cases_eq}
 use Rattle.dob_history.proofs.Common.{drop, drop-append_seam, drop-cons, err_from_is_err_and, get_or, get_or-set_other, get_or-set_same, get_or_default}
-use Rattle.dob_history.proofs.Common.{inl, inr, length, length-append, refl, set, subst, suc, sym, take, take-append-drop, take-append_seam, take-suc, zero}
+use Rattle.dob_history.proofs.Common.{inl, inr, length, refl, set, subst, suc, sym, take, take-append-drop, take-suc, zero}
 use Rattle.dob_history.proofs.Common.{ℕ}
 use Rattle.std.proofs.lemmas.List.{append-nil, drop_all, length-take-le, take_all}
-use Rattle.std.proofs.lemmas.List.Elements.{All-get_or}
 use Rattle.dob_history.proofs.Kepts.{emitted_still, kept_back}
 use Rattle.dob_share.proofs.PartItems.{items_of_parts-length, part_item, parts_before, parts_more}
-use Rattle.dob_share.specs.Items.{item_for, items_in_all, items_of_parts}
-use Rattle.dob_share.specs.declared.news.Part.{Part}
-use Rattle.dob_distance.specs.declared.value.Value.TheVariants.{Win}
+use Rattle.dob_share.specs.Items.{item_for, items_in_all, items_of_parts, PartView}
 use Rattle.dob_share.specs.declared.share.Seen.{Seen}
-use Rattle.dob_stops.specs.declared.cause.Cause.TheVariants as cause
-
--- a part beyond the end of a list
-abbrev pub no_part : Part
-no_part = record { settlement = record { number = 0; class = 0; was = Win 0; now = Win 0 }; items = 0 }
+use Rattle.dob_share.specs.declared.cause.Cause.TheVariants as cause
 
 -- an item of no class, where a list has none
 pub no_item : Item
 no_item = record { number = 0; to = 0; was = Draw; now = Draw }
 
 -- ---- room doesn't matter
-
 one_with_room : (item : Item) (share after : Share) (history grown : HistoryView) (room : ℕ) → IsTaken item share after (record history { room = room }) grown →
     IsTaken item share after history grown
 one_with_room item share after history grown room taken = assumption
@@ -141,15 +133,8 @@ stops_first (item ∷ items) share history some = record {
 }
 
 -- ---- a queue: those that are taken are the first of it, and gone
-
 pub takes_none : (items : List Item) (share : Share) (history : HistoryView) → TakesFirst items items share share history history
 takes_none items share history = record { front = []; items_are = refl; taken = (refl, refl) }
-
-pub left_entries : {items left : List Item} {share after : Share} {history grown : HistoryView} → TakesFirst items left share after history grown →
-    All HasItemEntries items → All HasItemEntries left
-left_entries {items = items} {left = left} takes entries =
-    subst (λ xs. All HasItemEntries xs) (ap (drop (length takes.front)) takes.items_are ∙ drop-append_seam takes.front left)
-    (All-drop HasItemEntries (length takes.front) items entries)
 
 module _ (queue : List Item) (count : ℕ) (share after : Share) (history grown : HistoryView) where
   left : (why : Cause) (before : AreTakenBefore queue count share after history grown why) → drop count queue ≡ before.item ∷ before.behind
@@ -243,18 +228,18 @@ seen_after next share after classes looks still seen within place class look ins
 -- ---- the items of parts, one after the other
 
 -- the first items of the parts are taken, so many, and the classes of a group that has begun were looked at
-pub record IsTaking (parts : List Part) (classes : List ℕ) (count : ℕ) (share after : Share) (history grown : HistoryView) (looks : List (Option Seen)) : Type 0 where
+pub record IsTaking (parts : List PartView) (classes : List ℕ) (count : ℕ) (share after : Share) (history grown : HistoryView) (looks : List (Option Seen)) : Type 0 where
   pub taken : AreTaken (take count (items_of_parts parts classes)) share after history grown
   pub room : history.room ≤ grown.room + count
   pub kept : (family : Family) → AreKept family share.nodes share.id share history → AreKept family share.nodes share.id after grown
   pub seen : 0 < count % 32 → AreSeen count after classes looks
 
-pub none_taken : (parts : List Part) (classes : List ℕ) (share : Share) (history : HistoryView) (looks : List (Option Seen)) →
+pub none_taken : (parts : List PartView) (classes : List ℕ) (share : Share) (history : HistoryView) (looks : List (Option Seen)) →
     IsTaking parts classes 0 share share history history looks
 none_taken parts classes share history looks = record { taken = (refl, refl); room = omega arith; kept = λ family kept. kept; seen = λ within. absurd (omega arith) }
 
 -- The next item is one of a part.
-pub record IsNext (parts : List Part) (classes : List ℕ) (k index count : ℕ) (part : Part) (class : ℕ) : Type 0 where
+pub record IsNext (parts : List PartView) (classes : List ℕ) (k index count : ℕ) (part : PartView) (class : ℕ) : Type 0 where
   pub listed : items_in_all parts ≡ length classes
   pub there : k < length parts
   pub read : part ≡ get_or parts k part
@@ -262,7 +247,7 @@ pub record IsNext (parts : List Part) (classes : List ℕ) (k index count : ℕ)
   pub counted : count ≡ items_in_all (take k parts) + index
   pub class_is : class ≡ get_or classes count class
 
-module _ {parts : List Part} {classes : List ℕ} {k index count : ℕ} {part : Part} {class : ℕ} (next : IsNext parts classes k index count part class) where
+module _ {parts : List PartView} {classes : List ℕ} {k index count : ℕ} {part : PartView} {class : ℕ} (next : IsNext parts classes k index count part class) where
   abbrev items : List Item
   items = items_of_parts parts classes
 
@@ -274,9 +259,6 @@ module _ {parts : List Part} {classes : List ℕ} {k index count : ℕ} {part : 
 
   pub item_is : (default : Item) → get_or items count default ≡ item_for part.settlement class
   item_is default = part_item parts classes k index count part class default next.there next.read next.low (omega (arith, next.listed)) next.counted next.class_is
-
-  pub next_entries : All HasItemEntries items → HasItemEntries (item_for part.settlement class)
-  next_entries entries = subst HasItemEntries (item_is no_item) (All-get_or HasItemEntries items count no_item item_within entries)
 
   module _ {share mid : Share} {history longer : HistoryView} {looks : List (Option Seen)} (so_far : IsTaking parts classes count share mid history longer looks) where
     pub one_taken : {after : Share} {grown : HistoryView} {looked : List (Option Seen)} → IsTaken (item_for part.settlement class) mid after longer grown →
@@ -301,29 +283,28 @@ module _ {parts : List Part} {classes : List ℕ} {k index count : ℕ} {part : 
         (subst (λ (item : Item). IsReason item mid why) (sym (item_is no_item)) reason)
 
 -- it is, by the part and the class that stand there
-pub is_next : (parts : List Part) (classes : List ℕ) (k index count : ℕ) → items_in_all parts ≡ length classes → k < length parts →
-    index < (get_or parts k no_part).items → count ≡ items_in_all (take k parts) + index → IsNext parts classes k index count (get_or parts k no_part) (get_or classes count 0)
-is_next parts classes k index count listed there low counted = record {
+pub is_next : (parts : List PartView) (classes : List ℕ) (k index count : ℕ) (part : PartView) → items_in_all parts ≡ length classes → k < length parts →
+    part ≡ get_or parts k part → index < part.items → count ≡ items_in_all (take k parts) + index → IsNext parts classes k index count part (get_or classes count 0)
+is_next parts classes k index count part listed there read low counted = record {
   listed = listed;
   there = there;
-  read = read_again parts k no_part;
+  read = read;
   low = low;
   counted = counted;
   class_is = read_again classes count 0;
 }
 
 -- behind the items of a part are those of the next one
-pub part_done : (parts : List Part) (k index count : ℕ) → k < length parts → index ≡ (get_or parts k no_part).items → count ≡ items_in_all (take k parts) + index →
-    count ≡ items_in_all (take (k + 1) parts)
-part_done parts k index count there done counted =
-    let more = parts_more parts k (get_or parts k no_part) there (read_again parts k no_part) in omega (arith, more, done, counted)
+pub part_done : (parts : List PartView) (k index count : ℕ) (part : PartView) → k < length parts → part ≡ get_or parts k part → index ≡ part.items →
+    count ≡ items_in_all (take k parts) + index → count ≡ items_in_all (take (k + 1) parts)
+part_done parts k index count part there read done counted = let more = parts_more parts k part there read in omega (arith, more, done, counted)
 
-pub all_counted : (parts : List Part) (classes : List ℕ) (k count : ℕ) → items_in_all parts ≡ length classes → length parts ≤ k →
+pub all_counted : (parts : List PartView) (classes : List ℕ) (k count : ℕ) → items_in_all parts ≡ length classes → length parts ≤ k →
     count ≡ items_in_all (take k parts) → count ≡ length classes
 all_counted parts classes k count listed past counted = counted ∙ ap items_in_all (take_all k parts past) ∙ listed
 
 -- all are taken
-pub all_taken : {parts : List Part} {classes : List ℕ} {count : ℕ} {share after : Share} {history grown : HistoryView} {looks : List (Option Seen)} →
+pub all_taken : {parts : List PartView} {classes : List ℕ} {count : ℕ} {share after : Share} {history grown : HistoryView} {looks : List (Option Seen)} →
     items_in_all parts ≡ length classes → count ≡ length classes → IsTaking parts classes count share after history grown looks →
     AreTaken (items_of_parts parts classes) share after history grown
 all_taken {parts = parts} {classes = classes} {count = count} {share = share} {after = after} {history = history} {grown = grown} listed all so_far =

@@ -3,3 +3,9 @@ pub mod Stores
 pub mod TakenItems
 pub mod SeenItems
 pub mod Levels
+pub mod Histories
+pub mod Quiet
+pub mod Openings
+pub mod Lawful
+pub mod Falls
+pub mod Laws

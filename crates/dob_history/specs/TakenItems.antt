@@ -6,22 +6,17 @@ use Rattle.dob_rank.specs.Families.{classes_of}
 use Rattle.dob_distance.specs.Codes.{IsEntry}
 use Rattle.dob_share.specs.declared.news.Settlement.{Settlement}
 use Rattle.dob_share.specs.declared.news.Item.{Item}
-use Rattle.dob_share.specs.declared.news.Part.{Part}
 use Rattle.dob_share.specs.declared.share.Share.{Share}
 use Rattle.dob_share.specs.Owners.{owner_of}
 use Rattle.dob_share.specs.Cells.{Cell, SameCell, changed}
 use Rattle.dob_share.specs.Shares.{IsOwn, cell_at, Fits, GoesTooDeep, SameClasses, HasSettled}
 use Rattle.dob_history.specs.Stores.{HistoryView}
-use Rattle.dob_stops.specs.declared.cause.Cause.{Cause}
-use Rattle.dob_stops.specs.declared.cause.Cause.TheVariants.{TooDeep, Contradiction, Memory, Held, Counts}
+use Rattle.dob_share.specs.declared.cause.Cause.{Cause}
+use Rattle.dob_share.specs.declared.cause.Cause.TheVariants.{TooDeep, Contradiction, Memory, Held, Counts}
 
 -- the item's values are such as a table can have
 abbrev pub HasItemEntries : Item → Type 0
 HasItemEntries item = IsEntry item.was × IsEntry item.now
-
--- so are those of a part's items
-abbrev pub HasPartEntries : Part → Type 0
-HasPartEntries part = IsEntry part.settlement.was × IsEntry part.settlement.now
 
 -- the cell counts wins in odd and knows a loss in an even number of plies
 pub record HasParities (cell : Cell) : Type 0 where
@@ -53,10 +48,11 @@ listed (Some s) = s ∷ []
 abbrev pub IsHistory : HistoryView → HistoryView → Type 0
 IsHistory history same = same ≡ record history { room = same.room }
 
--- The share takes the item, which fits, and the history has the settlement that this makes, where it makes one; what room it has
+-- The share takes the item, which fits and has such values, and the history has the settlement that this makes, where it makes one; what room it has
 -- left isn't said.
 pub record IsTaken (item : Item) (share after : Share) (history grown : HistoryView) : Type 0 where
   pub fits : Fits share item
+  pub entries : HasItemEntries item
   pub classes : SameClasses share after
   pub cell : SameCell (cell_at after item.to) (changed item.was item.now (cell_at share item.to))
   pub others : (class : ℕ) → IsOwn share class → class ≢ item.to → SameCell (cell_at after class) (cell_at share class)

@@ -8,7 +8,7 @@ ghost use Rattle.dob_distance.specs.declared.value.Value.TheVariants.{Draw};
 ghost use Rattle.dob_share.specs.declared.news.Settlement.{Settlement as Settled};
 ghost use Rattle.dob_share.specs.declared.share.Seen.{Seen};
 ghost use Rattle.dob_share.specs.Shares.{Fits, GoesTooDeep, IsSeen, cell_at};
-ghost use Rattle.dob_stops.specs.declared.cause.Cause.TheVariants as cause;
+ghost use Rattle.dob_share.specs.declared.cause.Cause.TheVariants as cause;
 ghost use Rattle.dob_history.specs.Stores.{settlement_stored, settlements_from, starts_of};
 ghost use Rattle.dob_history.specs.Levels.{level_of};
 ghost use Rattle.dob_history.specs.TakenItems.{HasItemEntries, AreKept, StayKept, IsHistory, IsTaken, IsReason};
@@ -18,8 +18,7 @@ use dob_distance::{Value, code_of_value, value_of_code};
 use dob_lists::{SegmentLength, Segments};
 use dob_pieces::Memory;
 use dob_safra::NodeCount;
-use dob_share::{Item, Seen, Settlement, Share, quotient};
-use dob_stops::Cause;
+use dob_share::{Cause, Item, Seen, Settlement, Share, quotient};
 use std::alloc::Global;
 use std::marker::Model;
 

@@ -1,15 +1,13 @@
 // Items taken in order: what they make of the cells of a node, and of its history.
 ghost use Rattle.std.specs.Prelude.{◌≡◌, ◌<◌, ◌%◌, length, Err, IfErr, OnOk};
-ghost use Rattle.std.specs.List.{All};
 ghost use Rattle.dob_pieces.specs.declared.profile.Family.{Family as Set};
 ghost use Rattle.dob_share.specs.Items.{items_in_all, items_of_parts};
-ghost use Rattle.dob_stops.specs.declared.cause.Cause.TheVariants as cause;
-ghost use Rattle.dob_history.specs.TakenItems.{HasItemEntries, AreKept, StayKept, AreTaken, StopsAt, AreTakenBefore};
+ghost use Rattle.dob_share.specs.declared.cause.Cause.TheVariants as cause;
+ghost use Rattle.dob_history.specs.TakenItems.{AreKept, StayKept, AreTaken, StopsAt, AreTakenBefore};
 ghost use Rattle.dob_history.specs.SeenItems.{AreSeen};
 
 use crate::history::History;
-use dob_share::{Part, Seen, Share, item_for};
-use dob_stops::Cause;
+use dob_share::{Cause, Part, Seen, Share, item_for};
 
 /// How many items' classes are looked at before the first of the items is applied, so that the memory of all is read at once.
 const AHEAD: usize = 32;
@@ -30,7 +28,6 @@ pub fn take_parts(
 ) -> Result<(), Cause>
     requires kept { (family : Set) × AreKept family share.old.nodes share.old.id share.old history.old }
     requires listed { items_in_all parts.now ≡ length classes.now }
-    requires entries { All HasItemEntries (items_of_parts parts.now classes.now) }
     ensures stopped { IfErr result (λ why. StopsAt (items_of_parts parts.now classes.now) share.old history.old why) }
     ensures before { IfErr result (λ why. AreTakenBefore (items_of_parts parts.now classes.now) taken.new share.old share.new history.old history.new why) }
     ensures taken { OnOk result (AreTaken (items_of_parts parts.now classes.now) share.old share.new history.old history.new) }
@@ -41,10 +38,11 @@ pub fn take_parts(
     *taken = 0;
     let mut looks = [None; AHEAD];
     for part in parts {
-        for _item in 0..part.items {
+        let settlement = part.settlement();
+        for _item in 0..part.items() {
             look_ahead(share, classes, *taken, &mut looks);
             let seen = looks[*taken % AHEAD];
-            let item = item_for(part.settlement, classes[*taken]);
+            let item = item_for(settlement, classes[*taken]);
             history.take_seen(share, item, seen)?;
             *taken += 1;
         }

@@ -117,7 +117,6 @@ module _ {Z W : Type 0} {n : ℕ} {sends : List (Vec SendEnd Z)} {takes : List T
   }
 
 -- ---- inboxes laid one by one
-
 pub one_laid : (capacity n : ℕ) (sends : List SendEnd) (take : TakeEnd) (outlets : List Outlet) (inlet : Inlet) → senders_of take ≡ n → AreEndsOf take sends →
     AreOpened take.pass capacity n sends → taken_by take ≡ [] → AreOutlets sends outlets → inlet.end ≡ take → inlet.slot ≡ None → IsOneLaid capacity n outlets inlet
 one_laid capacity n sends take outlets inlet many ends opened nothing are end slot = grind arith

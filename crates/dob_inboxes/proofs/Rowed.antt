@@ -20,7 +20,6 @@ pub none_stands : {X Z L : Type 0} → (m i j : ℕ) (rows : List (Vec X Z)) (x 
 none_stands m i j rows x are there = absurd (let low = slice_get_within there.0.items j x there.2 in omega (arith, low, are.each i there.0 there.1))
 
 -- ---- a function of the first numbers
-
 at_spread : {B : Type 0} (f : ℕ → B) (a n k : ℕ) → k < n → slice_get (map f (range_with_len a n)) k ≡ Some (f (a + k))
 at_spread f a zero k low = absurd (omega (arith, low))
 at_spread f a (suc n) zero low = let same : a ≡ a + 0 = omega arith in ap (λ (k : ℕ). Some (f k)) same

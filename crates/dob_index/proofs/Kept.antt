@@ -43,7 +43,6 @@ block_stays family block upto more old new further row same is = record {
 }
 
 -- ---- one entry more of a run
-
 pub entry_written : (family : Family) (block lions at entry entries value : ℕ) (words : List ℕ) → at + entries ≤ length words → entry < entries
     → ((k : ℕ) → k < entry → classes_to_run family block lions + get_or words (at + k) 0 ≡ classes_to_place family block lions (k * entry_places))
     → classes_to_run family block lions + value ≡ classes_to_place family block lions (entry * entry_places) → (k : ℕ) → k < entry + 1
@@ -63,7 +62,6 @@ others_stay words old at entry entries value low same i (inr behind) =
     get_or-set_other words (at + entry) i value 0 (λ is. omega (arith, behind, is, low)) ∙ same i (inr behind)
 
 -- ---- one run more of a block
-
 pub record IsStep (family : Family) (block lions at next : ℕ) (old new : List ℕ) : Type 0 where
   pub agrees : (i : ℕ) → i ≢ row_at block + (101 + lions) → i ≢ row_at block + (lions + 1) → (i < at) ⊎ (next ≤ i) → get_or new i 0 ≡ get_or old i 0
   pub kept : IsKeptRun family block lions next new
@@ -124,7 +122,6 @@ runs_stay family block lions at next old new within low behind further step runs
 ]
 
 -- ---- the end of a block
-
 pub record AreAllRuns (family : Family) (block before count runs : ℕ) : Type 0 where
   pub sum_is : before + runs / lion_pairs * count ≡ classes_to_block family (block + 1)
   pub few : before + runs / lion_pairs * count ≤ 2 ^ 43
@@ -167,13 +164,11 @@ row_opened block before row words row_is room = record {
 }
 
 -- ---- what a block's writing leaves
-
 pub both_sides : (i first at next : ℕ) → first ≤ at → at ≤ next → (i < first) ⊎ (next ≤ i) → ((i < at) ⊎ (next ≤ i)) × ((i < first) ⊎ (at ≤ i))
 both_sides i first at next further more (inl before) = (inl (omega (arith, before, further)), inl before)
 both_sides i first at next further more (inr behind) = (inr behind, inr (omega (arith, behind, more)))
 
 -- ---- the first three numbers
-
 pub record IsHeaded (words new : List ℕ) (x y z : ℕ) : Type 0 where
   pub size : length new ≡ length words
   pub first_is : get_or new 0 0 ≡ x

@@ -19,7 +19,6 @@ pub nine_mixed : (set : PieceSet) (block : ℕ) → sum_below (run_words set blo
 nine_mixed set block = nine_times (entries_in set block)
 
 -- ---- one run and one block more
-
 pub run_more : (set : PieceSet) (block lions : ℕ) → entries_at set block (lions + 1) ≡ entries_at set block lions + run_words set block lions
 run_more set block lions = omega (arith, sum_below_more (run_words set block) lions)
 
@@ -27,7 +26,6 @@ pub block_more : (set : PieceSet) (block : ℕ) → entries_at set block lion_pa
 block_more set block = omega (arith, sum_below_more (block_words set) block)
 
 -- ---- within the whole
-
 below_end : (f : ℕ → ℕ) (a b : ℕ) → a ≤ b → sum_below f a ≤ sum_below f b
 below_end f a b upto = elim (cases_lt a b) [
   | inl lt ↦ (let rise = sum_below-rises f a b lt in omega (arith, rise))
@@ -47,7 +45,6 @@ pub after_rows : (set : PieceSet) (block lions : ℕ) → row_at (product (block
 after_rows set block lions = omega arith
 
 -- ---- they are few
-
 sum_few : (f : ℕ → ℕ) (bound n : ℕ) → ((k : ℕ) → k < n → f k ≤ bound) → sum_below f n ≤ n * bound
 sum_few f bound zero few = omega arith
 sum_few f bound (suc n) few =

@@ -15,7 +15,6 @@ use Rattle.dob_moves.specs.declared.game_move.Move.TheVariants.{Put, Step}
 use Rattle.dob_distance.specs.declared.value.Value.{Value}
 use Rattle.dob_distance.specs.declared.value.Value.TheVariants.{Draw, Loss, Win}
 use Rattle.dob_probe.specs.declared.by_value.ValuedMove.{ValuedMove}
-use Rattle.dob_probe.specs.declared.groups.Group.{Group}
 
 -- a comma where more follows
 abbrev pub comma_before : {A : Type 0} → List A → List ℕ
@@ -23,7 +22,6 @@ comma_before [] = []
 comma_before (x ∷ more) = codes ","
 
 -- ---- fields
-
 abbrev pub position_field : Setup → List ℕ
 position_field position = codes "\"position\":\"" ++ (text_of position ++ codes "\"")
 
@@ -63,7 +61,6 @@ move_fields (Step kind from to catch grows) second =
 move_fields (Put kind to) second = put_fields (move_text (Put kind to) second) kind (seen second to)
 
 -- ---- objects
-
 abbrev pub valued_object : ValuedMove → List ℕ
 valued_object valued = codes "{" ++ (move_fields valued.played false ++ (codes "," ++ (value_fields valued.value ++ codes "}")))
 
@@ -93,5 +90,5 @@ line_object position value moves =
     codes "{" ++ (valued_fields position value ++ (codes ",\"moves\":[" ++ (played_objects false moves ++ (codes "]}" ++ line_feed ∷ []))))
 
 -- a value and how many classes have it
-abbrev pub group_object : Group → List ℕ
-group_object group = codes "{" ++ (value_fields group.value ++ (codes ",\"classes\":" ++ (decimal group.classes ++ (codes "}" ++ line_feed ∷ []))))
+abbrev pub count_object : Value → ℕ → List ℕ
+count_object value classes = codes "{" ++ (value_fields value ++ (codes ",\"classes\":" ++ (decimal classes ++ (codes "}" ++ line_feed ∷ []))))

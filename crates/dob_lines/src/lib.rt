@@ -16,7 +16,7 @@ mod texts;
 mod valued_moves;
 mod values;
 
-pub use objects::{group_object, line_object, moves_object, value_object};
+pub use objects::{count_object, line_object, moves_object, value_object};
 pub use played::{moves_lines, played_drawing};
 pub use progress::{Console, Progress, tell_need};
 pub use tally::lines_of;

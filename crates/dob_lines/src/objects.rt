@@ -1,11 +1,11 @@
 // Answers as JSON: an object on a line.
 ghost use Rattle.std.specs.Prelude.{◌≡◌, false, IfOk, string_bytes};
 ghost use Rattle.dob_text.specs.MoveText.{seen, square_text};
-ghost use Rattle.dob_lines.specs.Objects.{comma_before, group_object, kind_name, line_object, move_fields, moves_object, played_objects, position_field, put_fields, step_fields, truth, value_fields, value_object, valued_fields, valued_object, valued_objects};
+ghost use Rattle.dob_lines.specs.Objects.{comma_before, count_object, kind_name, line_object, move_fields, moves_object, played_objects, position_field, put_fields, step_fields, truth, value_fields, value_object, valued_fields, valued_object, valued_objects};
 
 use dob_moves::Move;
 use dob_pieces::{HandKind, Kind, Memory, Position, Square};
-use dob_probe::{Group, ValuedMove};
+use dob_probe::ValuedMove;
 use dob_text::{write_move, write_position};
 use dob_value::Value;
 use std::alloc::Global;
@@ -47,10 +47,9 @@ pub fn line_object(
 }
 
 /// The object of a value and how many classes have it.
-pub fn group_object(alloc: Global, group: Group) -> Result<String, Memory>
-    ensures { IfOk result (λ line. string_bytes line ≡ group_object group) }
+pub fn count_object(alloc: Global, value: Value, classes: u64) -> Result<String, Memory>
+    ensures { IfOk result (λ line. string_bytes line ≡ count_object value classes) }
 {
-    let Group { value, classes, .. } = group;
     let worth = value_fields(alloc, value)?;
     Ok(format!(in alloc; "{{{worth},\"classes\":{classes}}}\n")?)
 }
@@ -106,7 +105,6 @@ fn comma_before<T>(rest: &[T]) -> &'static str
     }
 }
 
-// The fields of a position and its value.
 fn valued_fields(alloc: Global, position: &Position, value: Value) -> Result<String, Memory>
     ensures { IfOk result (λ text. string_bytes text ≡ valued_fields position.now.setup value) }
 {
@@ -115,7 +113,6 @@ fn valued_fields(alloc: Global, position: &Position, value: Value) -> Result<Str
     Ok(format!(in alloc; "{place},{worth}")?)
 }
 
-// The field of a position.
 fn position_field(alloc: Global, position: &Position) -> Result<String, Memory>
     ensures { IfOk result (λ text. string_bytes text ≡ position_field position.now.setup) }
 {
@@ -123,7 +120,6 @@ fn position_field(alloc: Global, position: &Position) -> Result<String, Memory>
     Ok(format!(in alloc; "\"position\":\"{text}\"")?)
 }
 
-// The fields of a value.
 fn value_fields(alloc: Global, value: Value) -> Result<String, Memory>
     ensures { IfOk result (λ text. string_bytes text ≡ value_fields value) }
 {
@@ -208,7 +204,6 @@ fn square_text(alloc: Global, square: Square) -> Result<String, Memory>
     Ok(text)
 }
 
-// The name of a kind.
 fn kind_name(kind: Kind) -> &'static str
     ensures { result.now ≡ kind_name kind }
 {

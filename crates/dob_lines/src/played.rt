@@ -28,7 +28,6 @@ pub fn moves_lines(
     }
 }
 
-// The lines of some moves.
 fn played_lines(alloc: Global, is_numbered: bool, moves: &[Move]) -> Result<String, Memory>
     ensures { IfOk result (λ lines. string_bytes lines
         ≡ (if is_numbered then numbered_text moves.now else moves_text false moves.now ++ line_feed ∷ [])) }
@@ -50,7 +49,6 @@ fn end_line(value: Value) -> &'static str
     }
 }
 
-// The line of the moves.
 fn move_line(alloc: Global, moves: &[Move]) -> Result<String, Memory>
     ensures { IfOk result (λ line. string_bytes line ≡ moves_text false moves.now ++ line_feed ∷ []) }
 {

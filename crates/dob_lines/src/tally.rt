@@ -63,7 +63,6 @@ fn none() -> Tally
     }
 }
 
-// The tally of one value.
 fn one(value: Value) -> Tally
     ensures { IsTally (value ∷ []) result }
 {

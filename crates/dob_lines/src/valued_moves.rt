@@ -31,14 +31,12 @@ pub fn best_move_line(alloc: Global, legal: &[ValuedMove]) -> Result<String, Mem
     }
 }
 
-// A line for each move.
 fn some_lines(alloc: Global, legal: &[ValuedMove]) -> Result<String, Memory>
     ensures { IfOk result (λ lines. string_bytes lines ≡ flat_map valued_move_line legal.now) }
 {
     joined(alloc, legal, |valued| valued_move_line(alloc, valued))
 }
 
-// The line of the move.
 fn valued_move_line(alloc: Global, valued: ValuedMove) -> Result<String, Memory>
     ensures { IfOk result (λ line. string_bytes line ≡ valued_move_line valued) }
 {

@@ -120,7 +120,6 @@ place_after n (suc q) r (v ∷ vs) whole split below =
     }
 
 -- ---- by the quotient
-
 split_is : (i n : ℕ) → i ≡ (i / n) * n + i % n
 split_is i n = sym (div-add-mod' i n)
 

@@ -1,5 +1,5 @@
-// Lists in segments: long lists that grow without moving what they have, which tables, cells and outboxes are kept in. With them the powers of 2 by which a
-// place is split.
+// `Segments`, the long lists in which tables, cells and outboxes are kept: they grow without moving what they have. With them the powers of 2 by which a place
+// is split.
 //
 // Choices:
 // - Lists in segments suit long lists: the first segment grows from nothing, each further one is reserved whole. A push past 2^56 items is out of memory.

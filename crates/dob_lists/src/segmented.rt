@@ -175,7 +175,6 @@ impl<T> IndexMut<usize> for Segments<T> {
     }
 }
 
-// `count` copies of the item.
 fn copies<T: Copy>(alloc: Global, count: usize, item: T) -> Result<Vec<T>, Memory>
     ensures { IfOk result (λ segment. segment.items ≡ replicate count item) }
 {

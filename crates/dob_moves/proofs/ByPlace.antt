@@ -68,7 +68,6 @@ step_goes profile p from to (Some m) low high e =
     (can_go_in profile p m is.0 (step_may profile m (omega (arith, is.1, low, high))), is.1)
 
 -- ---- drops
-
 drop_is : (profile : Profile) (p : Setup) (kind : HandKind) (to : ℕ) (m : Move) → to < 12 → drop_on profile p kind to ≡ Some m
     → CanGo profile p m × (place m ≡ first_drop + 12 * hand_place kind + to)
 drop_is profile p kind to m lt e =

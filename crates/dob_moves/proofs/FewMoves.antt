@@ -43,7 +43,6 @@ unfolding steps_from
 from_few p from = if_few p from (own_kind (at p from))
 
 -- ---- sums
-
 scaled : (f g : ℕ → ℕ) (times n : ℕ) → ((k : ℕ) → f k ≤ times * g k) → sum_below f n ≤ times * sum_below g n
 scaled f g times zero few = omega arith
 scaled f g times (suc n) few = omega (arith, few n, scaled f g times n few)

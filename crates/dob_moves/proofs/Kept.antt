@@ -32,7 +32,6 @@ arrival_stands B Chick to false e = ap not e
 arrival_stands B _ to false e = refl
 
 -- ---- a step and a drop
-
 allowed-stepped : (profile : Profile) (p : Setup) (kind : Kind) (from to : ℕ) (catch grows : Bool) (q : Setup) → length p.board ≡ 12
     → IsAllowed profile p → HasOutcome p (Step kind from to catch grows) q → IsAllowed profile (stepped p kind from to grows)
 unfolding stepped
@@ -52,7 +51,6 @@ unfolding dropped
 allowed-dropped profile p put to twelve allowed on here = search (rules, allowed-from_stands, stands-from_allowed)
 
 -- ---- the outcome of a move
-
 pub IsAllowed-Goes : (profile : Profile) (p : Setup) (m : Move) (q : Setup) → length p.board ≡ 12 → IsAllowed profile p → Goes profile p m q → IsAllowed profile q
 IsAllowed-Goes profile p (Step kind from to catch grows) q twelve allowed by =
     let g = goes profile p (Step kind from to catch grows) q by in

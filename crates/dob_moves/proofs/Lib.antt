@@ -4,6 +4,7 @@ mod Common  -- names of other crates and of this one's definitions, for the proo
 pub mod Turns  -- when a turned setup is a position
 pub mod Outcomes  -- what stands after a move is legal
 pub mod Arrivals  -- what the enemy sees of a move
+pub mod Shown  -- a board shows one setup
 pub mod ByProfile  -- moves by the rules of a profile
 pub mod Kept  -- what a move by them leads to is allowed
 pub mod Mirrors  -- moves of mirror images
@@ -23,3 +24,4 @@ pub mod ProfileMoves  -- what moves by a profile lead to, and their mirror image
 pub mod MoveLists  -- the list has just the moves
 pub mod MoveCounts  -- moves counted without a list
 pub mod FewMoves  -- a position has at most 63 moves
+pub mod Walked  -- what a walk comes to

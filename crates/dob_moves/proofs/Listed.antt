@@ -48,7 +48,6 @@ pub steps_counting : (p : Setup) (kind : Kind) (from : ℕ) → IsCounting (may_
 steps_counting p kind from to = ap length (steps_to-is p kind from to) ∙ length_if (may_step p kind from to) (the_step p kind from to)
 
 -- ---- the steps from a square
-
 no_own : (cell : Cell) → is_own cell ≡ false → own_kind cell ≡ None
 no_own None h = refl
 no_own (Some piece) h = search rules

@@ -4,10 +4,9 @@ use Rattle.dob_moves.proofs.Common.{true≢false, ℕ, and_parts, cases_lt, is_s
 use Rattle.dob_moves.proofs.Common.{lowest_is, none_passes, passes_somewhere, IsMask, attacks, is_end, leads, Cell, HasLions, at, piece_of, Kind, Lion, Enemy}
 use Rattle.dob_moves.proofs.Common.{Mover, A, Setup}
 use Rattle.dob_moves.proofs.Common.{CanGo, CatchesLion, grows_at, place, CanCatch, HasTried, IsFirstCatch, may_end, step_onto, Elsewhere, Move, Put, Step}
-use Rattle.dob_moves.proofs.Common.{Option, MatchOption, AtLion}
-use Rattle.dob_moves.specs.AtPlaces.{step_between}
+use Rattle.dob_moves.proofs.Common.{ap, is_own}
 use Rattle.dob_moves.proofs.Reach.{IsStep, step_sound}
-use Rattle.dob_moves.proofs.ByPlace.{found_there}
+use Rattle.dob_moves.proofs.Turns.{kind_of}
 
 -- ---- who catches the enemy lion
 
@@ -41,16 +40,15 @@ some_attack p lion mask stands are some =
     let attacker = passes_somewhere (λ from. attacks p from lion) mask are some in catch_by p attacker.0 lion stands attacker.2
 
 -- the catch from the lowest square is the first
-pub first_attack : (p : Setup) (lion mask from : ℕ) (o : Option Move) → length p.board ≡ 12 → HasLions p → at p lion ≡ Some (piece_of Enemy Lion)
-    → IsMask (λ from. attacks p from lion) mask → IsFirst mask from → o ≡ step_between AtLion p from lion
-    → MatchOption o (¬ CanCatch p) (λ m. IsFirstCatch p m)
-first_attack p lion mask from o twelve lions stands are lowest looked_for =
+pub first_attack : (p : Setup) (lion mask from : ℕ) (kind : Kind) → length p.board ≡ 12 → HasLions p → at p lion ≡ Some (piece_of Enemy Lion)
+    → IsMask (λ from. attacks p from lion) mask → IsFirst mask from → (is_own (at p from) ≡ true → at p from ≡ Some (piece_of Mover kind))
+    → IsFirstCatch p (Step kind from lion true (grows_at kind lion))
+first_attack p lion mask from kind twelve lions stands are lowest kind_is =
     let it = lowest_is (λ from. attacks p from lion) mask from are lowest in
     let piece = attacks_piece (at p from) from lion it.passes in
-    let step = Step piece.0 from lion true (grows_at piece.0 lion) in
-    let found = found_there AtLion p piece.0 from lion step (record { step = record { own = piece.1; leads = piece.2 }; found = rw stands refl }) in
-    subst (λ (o : Option Move). MatchOption o (¬ CanCatch p) (λ m. IsFirstCatch p m)) (sym (looked_for ∙ found))
-    (record { catches = (piece.1, piece.2, stands, refl); first = least piece.0 it }) where
+    let own : at p from ≡ Some (piece_of Mover kind) = kind_is (ap is_own piece.1) in
+    let same : piece.0 ≡ kind = ap kind_of (sym piece.1 ∙ own) in
+    record { catches = (own, subst (λ (k : Kind). leads k from lion ≡ true) same piece.2, stands, refl); first = least kind it } where
       least : (kind : Kind) → IsLowest (λ from. attacks p from lion) mask from → (other : Move) → CatchesLion p other
           → place (Step kind from lion true (grows_at kind lion)) ≤ place other
       least kind it (Step other start to true grows) h =
@@ -64,12 +62,10 @@ first_attack p lion mask from o twelve lions stands are lowest looked_for =
       least kind it (Put other to) h = absurd h
 
 -- ---- a try
-
 pub tried_by : (p : Setup) (lion : ℕ) → HasLions p → at p lion ≡ Some (piece_of Enemy Lion) → HasTried p → lion / 3 ≡ 0
 tried_by p lion lions stands t = grind (arith, one_lion)
 
 -- ---- where steps may end
-
 pub end_is : (cell : Cell) → is_end cell ≡ may_end Elsewhere cell
 end_is None = refl
 end_is (Some piece) = grind arith

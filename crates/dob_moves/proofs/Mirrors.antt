@@ -29,7 +29,6 @@ grows_at-mirrored Chick to = ap (λ r. r == 3) (row-mirrored to)
 grows_at-mirrored _ to = refl
 
 -- ---- boards
-
 abbrev mirrored_board : List Cell → List Cell
 mirrored_board board = board_by (λ k. get_or board (mirrored_square k) None)
 

@@ -10,7 +10,6 @@ use Rattle.dob_moves.proofs.MoveLists.{tried_at, AreMoves-moves_of}
 use Rattle.dob_moves.proofs.Verdicts.{catch_answer}
 
 -- ---- all moves
-
 by_tests : (profile : Profile) (p : Setup) → length p.board ≡ 12 → HasStatus profile p Open → (o : Option Move) (tried : Bool) → o ≡ first (all_steps AtLion p) →
     has_tried p ≡ tried → (moves : List Move) → (if is_some o || tried then [] else moves) ≡ moves
 by_tests profile p twelve is_open (Some m) tried e h moves =

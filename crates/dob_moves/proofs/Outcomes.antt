@@ -9,14 +9,10 @@ use Rattle.std.proofs.lemmas.Bool.{and_right}
 use Rattle.std.proofs.Common.{rules}
 use Rattle.dob_pieces.specs.declared.kind.HandKind.TheVariants as hand
 use Rattle.dob_pieces.specs.Pieces.{is_lion, is_side, counts_as}
+pub use Rattle.dob_moves.specs.Arrivals.{Met}
 use Rattle.dob_moves.proofs.Turns.{sides_apart, IsFreeOfTry, IsLegal-turned}
 
 -- ---- a step, whether or not it catches or grows
-
--- what stands on its last square, by whether it catches
-abbrev pub Met : Setup → ℕ → Bool → Type 0
-Met p to false = at p to ≡ None
-Met p to true = (taken : HandKind) × CanTake p to taken
 
 -- the hands after it
 abbrev pub hands_stepped : Setup → ℕ → Hands

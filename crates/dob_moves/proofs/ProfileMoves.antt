@@ -52,7 +52,6 @@ pub status_there : (profile : Profile) (p : Setup) (status : Status) → IsLegal
 status_there profile p status legal has = (share_status profile p status legal).1 has
 
 -- ---- mirror images
-
 may_put-mirrored : (profile : Profile) (kind : HandKind) (to : ℕ) → may_put profile kind (mirrored_square to) ≡ may_put profile kind to
 may_put-mirrored A kind to = refl
 may_put-mirrored B kind to = ap (λ (r : ℕ). not (is_far Mover (kind_on_board kind) r)) (row-mirrored to)

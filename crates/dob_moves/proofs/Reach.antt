@@ -93,7 +93,6 @@ lion_found p kind from to false grows h = absurd h
 lion_found p kind from to true grows h = record { step = record { own = h.0; leads = h.1 }; found = rw (h.2, h.3) refl }
 
 -- ---- the steps of a piece
-
 steps_by_sound : (aim : Aim) (p : Setup) (kind : Kind) (from : ℕ) (m : Move) → from < 12 → at p from ≡ Some (piece_of Mover kind)
     → Contains (steps_by aim p kind from) m → Meets aim p m
 steps_by_sound aim p kind from m lt own h =
@@ -121,7 +120,6 @@ found_in_steps_by aim p kind from to m lt h =
     (each_whole g 12 to m near (option_whole (step_to aim p kind from to) m it))
 
 -- ---- the steps from each square
-
 steps_from_sound : (aim : Aim) (p : Setup) (from : ℕ) (m : Move) → from < 12 → Contains (steps_from aim p from) m → Meets aim p m
 unfolding steps_from
 steps_from_sound aim p from m lt h = by_own (own_kind (at p from)) refl h where
@@ -142,7 +140,6 @@ unfolding steps_from
 found_in_steps_from aim p kind from to m lt h = rw h.step.own (found_in_steps_by aim p kind from to m lt h)
 
 -- ---- all steps
-
 pub steps_sound : (aim : Aim) (p : Setup) (m : Move) → Contains (all_steps aim p) m → Meets aim p m
 unfolding all_steps
 steps_sound aim p m h =
@@ -237,7 +234,6 @@ drops_whole profile p hand.Chick to h = search (drops_of_whole, Contains-append_
 drops_whole profile p _ to h = search (drops_of_whole, Contains-append_left, Contains-append_right)
 
 -- ---- what is found says of the position
-
 catch_listed : (p : Setup) → length p.board ≡ 12 → (m : Move) → CatchesLion p m → Contains (all_steps AtLion p) m
 catch_listed p len (Step kind from to catch grows) h =
     found_in_steps AtLion p kind from to (Step kind from to catch grows) len (lion_found p kind from to catch grows h)

@@ -21,7 +21,6 @@ rising-option low high None lt h = omega arith
 rising-option low high (Some x) lt h = (omega (arith, h x refl), omega (arith, lt, h x refl))
 
 -- ---- ascending lists
-
 rising-ends : (low high : ℕ) (ms : List Move) → Rising place low high ms → low ≤ high
 rising-ends low high [] r = r
 rising-ends low high (x ∷ ms) r = omega (arith, r.0, rising-ends (suc (place x)) high ms r.1)
@@ -36,7 +35,6 @@ rising-below low high (x ∷ ms) m r h =
     ]
 
 -- ---- the first of a list
-
 pub first_none : (ms : List Move) → first ms ≡ None → (m : Move) → Contains ms m → ⊥
 first_none [] e m h = none_in_empty m h
 first_none (x ∷ ms) e m h = cc

@@ -8,7 +8,6 @@ use Rattle.dob_pieces.specs.declared.kind.HandKind.TheVariants as hand
 use Rattle.dob_moves.proofs.ByProfile.{can_go}
 
 -- ---- an empty square
-
 abbrev is_taken : Cell → Bool
 is_taken None = false
 is_taken (Some piece) = true

@@ -31,7 +31,6 @@ no_moves p steps drops len e d none w =
     no_move p len (first_of_none (all_steps Elsewhere p) (omega (arith, e, none))) (first_of_none (all_drops A p) (omega (arith, d, none))) w.0 w.1
 
 -- ---- the list of the moves
-
 move_listed : (profile : Profile) (p : Setup) → length p.board ≡ 12 → (m : Move) → CanGo profile p m → Contains (all_steps Elsewhere p ++ all_drops profile p) m
 move_listed profile p len (Step kind from to catch grows) h =
     Contains-append_left _ _ _

@@ -23,7 +23,6 @@ abbrev pub IsCatchAt : Setup → ℕ → Move → Type 0
 IsCatchAt p there move = CatchesLion p move × (place move ≡ there)
 
 -- ---- the same as it is looked for
-
 abbrev pub step_of : Aim → Setup → Option Kind → ℕ → ℕ → Option Move
 step_of aim p None from to = None
 step_of aim p (Some kind) from to = cond (leads kind from to) (step_onto aim (at p to) kind from to) None

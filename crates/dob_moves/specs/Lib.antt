@@ -7,3 +7,5 @@ pub mod Laws
 pub mod Walks
 pub mod AtPlaces
 pub mod MoveLists
+pub mod Shown
+pub mod MoveWalks

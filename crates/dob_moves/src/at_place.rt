@@ -94,7 +94,6 @@ fn drop_on(profile: Profile, setup: &Setup, kind: HandKind, to: Square) -> Optio
     }
 }
 
-// The kind in hand of that number.
 fn hand_kind(number: usize) -> HandKind
     requires { number < 3 }
     ensures { hand_place result ≡ number }

@@ -3,20 +3,20 @@ ghost use Rattle.std.specs.Prelude.{◌≡◌, ◌↔◌, ◌≤◌, ◌*◌, Is
 ghost use Rattle.dob_pieces.specs.declared.profile.Profile.TheVariants.{A};
 ghost use Rattle.dob_pieces.specs.Boards.{IsBoardOf};
 ghost use Rattle.dob_pieces.specs.Masks.{AreSquares, is_empty, is_end};
-ghost use Rattle.dob_pieces.specs.Setups.{IsLegal};
 ghost use Rattle.dob_pieces.specs.declared.setup.Setup.{Setup};
 ghost use Rattle.dob_moves.specs.Moves.{CanGo};
 ghost use Rattle.dob_moves.specs.Walks.{steps_by, all_steps, drops_of, all_drops};
 ghost use Rattle.dob_moves.specs.MoveLists.{moves_of};
 ghost use Rattle.dob_moves.specs.Laws.{most_moves};
+ghost use Rattle.dob_moves.specs.Shown.{setup_on};
 ghost use Rattle.dob_moves.specs.Statuses.{HasStatus};
 ghost use Rattle.dob_moves.specs.declared.first_moves.Aim.TheVariants.{Elsewhere};
 ghost use Rattle.dob_moves.specs.declared.game_move.Move.{Move as Moved};
 
 use crate::droppable::squares_for;
+use crate::position_board::PositionBoard;
 use crate::position_status::Status;
-use crate::status_of::status_by;
-use dob_pieces::{Board, Hand, HandKind, Kind, Position, Profile, Square, SquareSet};
+use dob_pieces::{Board, Hand, HandKind, Kind, Profile, Square, SquareSet};
 
 // The number of steps of a piece of that kind on that square that end on one of these squares.
 fn count_steps_by(ends: SquareSet, kind: Kind, from: Square) -> u8
@@ -51,7 +51,7 @@ fn count_drops_of(profile: Profile, hand: Hand, empty: SquareSet, kind: HandKind
     empty.and(squares_for(profile, kind)).count()
 }
 
-// The number of drops.
+// How many drops the mover has, by the profile.
 fn count_drops(profile: Profile, board: &Board) -> u8
     ensures number { (setup : Setup) → IsBoardOf setup board.now → result ≡ length (all_drops profile setup) }
     ensures few { result ≤ 36 }
@@ -64,49 +64,32 @@ fn count_drops(profile: Profile, board: &Board) -> u8
 }
 
 /// Whether the mover of the position has a step, other than onto the enemy lion, or a drop.
-pub(crate) fn has_move(board: &Board) -> bool
-    requires { (p : Setup) × IsLegal p × IsBoardOf p board.now }
-    ensures { (p : Setup) → IsLegal p → IsBoardOf p board.now → (IsTrue result ↔ ((move : Moved) × CanGo A p move)) }
+pub(crate) fn has_move(position: &PositionBoard) -> bool
+    ensures { IsTrue result ↔ ((move : Moved) × CanGo A (setup_on position.now.board) move) }
 {
-    count_steps(board) + count_drops(Profile::A, board) != 0
+    count_steps(&position.board) + count_drops(Profile::A, &position.board) != 0
 }
 
 // The number of moves of the position, which has that status.
-fn count_at(profile: Profile, board: &Board, status: Status) -> u8
-    requires { (p : Setup) × IsLegal p × IsBoardOf p board.now }
-    ensures { (p : Setup) → IsLegal p → IsBoardOf p board.now → HasStatus profile p status → result ≡ length (moves_of profile p) }
+fn count_at(profile: Profile, position: &PositionBoard, status: Status) -> u8
+    requires { HasStatus profile (setup_on position.now.board) status }
+    ensures { result ≡ length (moves_of profile (setup_on position.now.board)) }
 {
     match status {
-        Status::Open => { count_steps(board) + count_drops(profile, board) }
+        Status::Open => { count_steps(&position.board) + count_drops(profile, &position.board) }
         _ => 0,
     }
 }
 
-/// The status of the position, and the number of its moves by the rules of the profile, as many as `moves` lists: 0 where
-/// it isn't open, and 63 at most.
-pub fn status_and_count(profile: Profile, position: &Position) -> (Status, u8)
-    ensures status { HasStatus profile position.now.setup result.0 }
-    ensures count { result.1 ≡ length (moves_of profile position.now.setup) }
-    ensures few { result.1 ≤ most_moves }
-{
-    status_and_count_by(profile, &Board::of(&position.setup))
-}
-
-/// The same of the position that the board shows.
-#[inline(always)]
-pub fn status_and_count_by(profile: Profile, board: &Board) -> (Status, u8)
-    requires { (p : Setup) × IsLegal p × IsBoardOf p board.now }
-    ensures status { (p : Setup) → IsLegal p → IsBoardOf p board.now → HasStatus profile p result.0 }
-    ensures count { (p : Setup) → IsLegal p → IsBoardOf p board.now → result.1 ≡ length (moves_of profile p) }
-    ensures few { result.1 ≤ most_moves }
-{
-    let status = status_by(board);
-    (status, count_at(profile, board, status))
-}
-
-/// The number of moves of the position by the rules of the profile, as many as `moves` lists: 0 if it isn't open.
-pub fn count_moves(profile: Profile, position: &Position) -> u8
-    ensures { result ≡ length (moves_of profile position.now.setup) }
-{
-    status_and_count(profile, position).1
+impl PositionBoard {
+    /// The status, and the number of moves by the rules of the profile, as many as a walk lists: 0 where it isn't open, and 63 at most.
+    #[inline(always)]
+    pub fn status_and_count(&self, profile: Profile) -> (Status, u8)
+        ensures status { HasStatus profile (setup_on self.now.board) result.0 }
+        ensures count { result.1 ≡ length (moves_of profile (setup_on self.now.board)) }
+        ensures few { result.1 ≤ most_moves }
+    {
+        let status = self.status(profile);
+        (status, count_at(profile, self, status))
+    }
 }

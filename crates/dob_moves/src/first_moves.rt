@@ -12,9 +12,9 @@ use dob_pieces::{HandKind, Kind, Piece, Setup, Side, Square};
 /// Where a step is to end.
 #[derive(Clone, Copy)]
 pub enum Aim {
-    /// On the enemy lion.
+    /// A step that catches the enemy lion.
     AtLion,
-    /// On an empty square or another enemy piece.
+    /// A step to an empty square or onto another enemy piece.
     Elsewhere,
 }
 

@@ -2,9 +2,9 @@
 ghost use Rattle.std.specs.Prelude.{◌≡◌, ◌+◌, ◌≤◌, ◌++◌, IfOk, length};
 ghost use Rattle.dob_pieces.specs.Boards.{IsBoardOf};
 ghost use Rattle.dob_pieces.specs.Masks.{AreSquares, is_empty, is_end};
-ghost use Rattle.dob_pieces.specs.Setups.{IsLegal};
 ghost use Rattle.dob_pieces.specs.declared.setup.Setup.{Setup};
 ghost use Rattle.dob_moves.specs.Laws.{most_moves};
+ghost use Rattle.dob_moves.specs.Shown.{setup_on};
 ghost use Rattle.dob_moves.specs.Statuses.{HasStatus, AreMoves};
 ghost use Rattle.dob_moves.specs.Walks.{steps_by, all_steps, drops_of, all_drops};
 ghost use Rattle.dob_moves.specs.declared.first_moves.Aim.TheVariants.{Elsewhere};
@@ -12,8 +12,8 @@ ghost use Rattle.dob_moves.specs.declared.first_moves.Aim.TheVariants.{Elsewhere
 use crate::droppable::squares_for;
 use crate::first_moves::grows_at;
 use crate::game_move::Move;
+use crate::position_board::PositionBoard;
 use crate::position_status::Status;
-use crate::status_of::status_by;
 use arrayvec::ArrayVec;
 use dob_pieces::{Board, Hand, HandKind, Kind, Memory, Position, Profile, Square, SquareSet};
 use std::alloc::Global;
@@ -83,47 +83,28 @@ fn push_drops(moves: &mut MoveList, profile: Profile, board: &Board)
     push_drops_of(moves, profile, hand, empty, HandKind::Giraffe);
 }
 
-/// Writes the moves of an open position by the rules of the profile into the list, each once, in the move order, and no moves
-/// of any other position, in place of what it had, and gives the position's status. One list serves many positions: a new one
-/// costs a write of its 400 bytes.
-pub fn moves_into(profile: Profile, moves: &mut MoveList, position: &Position) -> Status
-    ensures status { HasStatus profile position.now.setup result }
-    ensures moves { AreMoves profile position.now.setup moves.new.items }
-{
-    moves_into_by(profile, moves, &Board::of(&position.setup))
-}
-
-/// The same of the position that the board shows.
-pub fn moves_into_by(profile: Profile, moves: &mut MoveList, board: &Board) -> Status
-    requires { (p : Setup) × IsLegal p × IsBoardOf p board.now }
-    ensures status { (p : Setup) → IsLegal p → IsBoardOf p board.now → HasStatus profile p result }
-    ensures moves { (p : Setup) → IsLegal p → IsBoardOf p board.now → AreMoves profile p moves.new.items }
+/// Writes the moves of the position by the rules of the profile into the list, each once, in the move order, in place of what it had, and gives the
+/// position's status. No position but an open one has moves.
+pub(crate) fn list_moves(profile: Profile, moves: &mut MoveList, position: &PositionBoard) -> Status
+    ensures status { HasStatus profile (setup_on position.now.board) result }
+    ensures moves { AreMoves profile (setup_on position.now.board) moves.new.items }
 {
     moves.clear();
-    match status_by(board) {
+    match position.status(profile) {
         Status::Open => {
-            push_steps(moves, board);
-            push_drops(moves, profile, board);
+            push_steps(moves, &position.board);
+            push_drops(moves, profile, &position.board);
             Status::Open
         }
         other => other,
     }
 }
 
-/// The status of the position, and its moves by the rules of the profile, as [`moves_into`] writes them.
-pub fn legal_moves(profile: Profile, position: &Position) -> (Status, MoveList)
-    ensures status { HasStatus profile position.now.setup result.0 }
-    ensures moves { AreMoves profile position.now.setup result.1.items }
-{
-    let mut moves = MoveList::new();
-    let status = moves_into(profile, &mut moves, position);
-    (status, moves)
-}
-
-/// The same moves as a list on the heap. Fails if memory runs out.
+/// The position's moves by the rules of the profile, each once, in the move order; none but of an open position. Fails if memory runs out.
 pub fn moves(alloc: Global, profile: Profile, position: &Position) -> Result<Vec<Move>, Memory>
     ensures { IfOk result (λ v. AreMoves profile position.now.setup v.items) }
 {
-    let (_, moves) = legal_moves(profile, position);
+    let mut moves = MoveList::new();
+    let _status = list_moves(profile, &mut moves, &PositionBoard::of(position));
     Ok(Vec::from_slice(alloc, moves.as_slice())?)
 }

@@ -1,4 +1,5 @@
 // What a position is before any move is made.
+ghost use Rattle.std.specs.Prelude.{◌≡◌, ◌↔◌, true};
 
 /// The status of a position, decided in this order.
 #[derive(Clone, Copy, PartialEq, Eq)]
@@ -9,6 +10,15 @@ pub enum Status {
     Tried,
     /// The side to move has no move: a loss in 0.
     Stuck,
-    /// All else.
+    /// None of these: the game goes on.
     Open,
+}
+
+impl Status {
+    /// Whether it is that of an open position.
+    pub fn is_open(self) -> bool
+        ensures { (result ≡ true) ↔ (self ≡ Status.Open) }
+    {
+        matches!(self, Status::Open)
+    }
 }

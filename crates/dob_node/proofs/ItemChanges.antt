@@ -2,12 +2,11 @@
 use Rattle.dob_node.proofs.Common.{◌++◌, ◌∙◌, ◌∷◌, ◌≡◌, ◌≢◌, Better, Bool, Cell, CellValue, Fits, HasSettled, HasValueNow, HistoryView, IsTaken, IsValue}
 use Rattle.dob_node.proofs.Common.{Item, List, NoWorse, None, Open, Option, SameCell, Settlement, Share, Some, Status, Value, [], ap, append-nil, arith}
 use Rattle.dob_node.proofs.Common.{cell_at, cond, eq-eqb, eqb, inl, inr, length, listed, nat_tests, refl, status_at, subst, sym, true, value_of, ℕ}
-use Rattle.dob_lawful.proofs.Settles.{value_of-more}
-use Rattle.dob_lawful.proofs.Kept.{better_apart}
+use Rattle.dob_history.proofs.Settles.{value_of-more}
+use Rattle.dob_history.proofs.Kept.{better_apart}
 use Rattle.dob_history.proofs.Stored.{same_settlement}
 
 -- ---- a cell has one value
-
 pub one_value : (cell : Cell) (v w : Value) → CellValue cell v → CellValue cell w → v ≡ w
 one_value cell v w one other = grind arith
 

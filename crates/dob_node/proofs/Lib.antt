@@ -5,8 +5,7 @@ pub mod Opens  -- a node as it is opened: what its share has
 pub mod Sounds  -- a node stays sound
 pub mod Nodes  -- what a node has, whatever has failed of it, and the values of its own classes
 pub mod TakenLists  -- items that a node takes one after the other, whose history may have had other room before
-pub mod Sends  -- empty outboxes, what one settlement more adds to them, and what it is to take that back
-pub mod WaitingItems  -- the items that a node has for itself, of which it lists the classes
+pub mod Sends  -- empty outboxes, their room, and what one settlement more adds to them
 -- Worlds of shares and histories.
 pub mod ItemChanges  -- what an item that a share takes changes
 pub mod ShownValues  -- the values that classes show, and lists of them

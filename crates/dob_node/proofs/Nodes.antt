@@ -15,7 +15,6 @@ pub kept_sound : (family : Family) (n id : ℕ) (node : NodeView) → (node.fami
 kept_sound family n id node of sound = rw (of.0, of.1, of.2) at sound.kept
 
 -- ---- what holds of a node's core
-
 sound_noted : (core : Core) (was failed : Option Cause) → IsSound (node_of core was) → IsSound (node_of core failed)
 sound_noted core was failed sound = assumption
 

@@ -5,7 +5,7 @@ use Rattle.dob_node.proofs.Common.{length, mod-mul-add, opening_of, opening_sett
 use Rattle.dob_node.proofs.Common.{status_at, subst, sym, ℕ}
 use Rattle.dob_rank.proofs.OfFamilies.ClassBounds.{classes_of-below}
 use Rattle.dob_history.proofs.Starts.{all_started, parities_same, start_length, starts_are}
-use Rattle.dob_lawful.proofs.Opens.{listed_opening, moves_open, twelve_squares}
+use Rattle.dob_history.proofs.Opens.{listed_opening, moves_open, twelve_squares}
 
 fresh_parities : (moves : ℕ) → HasParities (fresh moves)
 fresh_parities moves = grind arith

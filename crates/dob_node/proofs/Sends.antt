@@ -1,14 +1,13 @@
--- The outboxes of a node: empty ones, what one settlement more adds to them, and what it is to take that back.
-use Rattle.dob_node.proofs.Common.{◌++◌, ◌+◌, ◌<◌, ◌==◌, ◌∙◌, ◌∷◌, ◌≡◌, ◌≢◌, ◌≤◌, All, All-append, All-drop, All-nil, All-take, AreAdded, BatchView, Family}
-use Rattle.dob_node.proofs.Common.{HasItemEntries, HasOneMore, HaveOneMore, IfSome, IsCut, IsCutFrom, IsEntry, IsNone, IsOutboxTo, IsSound, Item, List}
+-- The outboxes of a node: empty ones, what one settlement more adds to them, and what a batch cut leaves.
+use Rattle.dob_node.proofs.Common.{◌++◌, ◌+◌, ◌<◌, ◌∙◌, ◌∷◌, ◌≡◌, ◌≢◌, ◌≤◌, All, AreAdded, BatchView, Family}
+use Rattle.dob_node.proofs.Common.{IfSome, IsCut, IsCutFrom, IsNone, IsOutboxTo, IsSound, Item, List}
 use Rattle.dob_node.proofs.Common.{NodeView, None, Option, OutboxView, Settlement, Some, [], added, ap, arith, cases_eq, cases_lt, drop-nil, empty_outbox}
-use Rattle.dob_node.proofs.Common.{filter, get_or, get_or-eq_default, get_or-set_other, get_or-set_same, get_or_append_left, get_or_default, inl, inr}
-use Rattle.dob_node.proofs.Common.{items_of, length, length-append, length-set, outbox_in, owner_of, predecessors, refl, same_lists, set, subst, sym, ℕ}
-use Rattle.std.proofs.lemmas.List.{get_or_push}
-use Rattle.dob_node.proofs.Sounds.{entries_of}
+use Rattle.dob_node.proofs.Common.{get_or, get_or-eq_default, get_or-set_other, get_or-set_same, get_or_append_left, get_or_default, inl, inr}
+use Rattle.dob_node.proofs.Common.{items_of, length, length-append, length-set, outbox_in, predecessors, refl, set, subst, sym, ℕ}
+use Rattle.dob_node.proofs.Common.{OutboxState, sends_of}
+use Rattle.std.proofs.lemmas.List.{get_or-map, get_or_push, length-map, map-set}
 
 -- ---- empty ones
-
 pub empties_more : (family : Family) (n from k : ℕ) (xs new : List OutboxView) → length xs ≡ k →
     ((to : ℕ) → outbox_in family n from xs to ≡ empty_outbox family n from to) → new ≡ xs ++ empty_outbox family n from k ∷ [] →
     (to : ℕ) → outbox_in family n from new to ≡ empty_outbox family n from to
@@ -36,6 +35,15 @@ module _ {targets : List ℕ} {settlement : Settlement} {n from k : ℕ} {old mi
       same : many ≡ n
       same = many_is ∙ so_far.whole ∙ sym count
 
+-- an outbox that is written has what it had to send, and more
+pub sends_set : (mid new : List OutboxState) (k : ℕ) (outbox : OutboxState) (new_sends : OutboxView → OutboxView) → k < length mid → new ≡ set mid k outbox →
+    ((default : OutboxState) → outbox.sends ≡ new_sends (get_or mid k default).sends) → (default : OutboxView) →
+    sends_of new ≡ set (sends_of mid) k (new_sends (get_or (sends_of mid) k default))
+sends_set mid new k outbox new_sends low is are default =
+    let any : OutboxState = record { sends = default; room = 0 } in
+    ap sends_of is ∙ map-set (λ (o : OutboxState). o.sends) mid k outbox
+    ∙ ap (λ (o : OutboxView). set (sends_of mid) k o) (are any ∙ ap new_sends (sym (get_or-map (λ (o : OutboxState). o.sends) mid k any default low)))
+
 -- none is added yet
 pub added_none : (targets : List ℕ) (settlement : Settlement) (n from : ℕ) (old : List OutboxView) → AreAdded targets settlement n from 0 old old
 added_none targets settlement n from old = grind arith
@@ -59,32 +67,27 @@ addressed_still {from = from} {k = k} {many = many} {old = old} so_far count man
     (grind (arith, there, whom, so_far.whole), grind (arith, there, whom), rw (there, whom.0) of.1)
 
 -- ---- what the outboxes are for
-
 pub addressed_empty : (family : Family) (n from : ℕ) (xs : List OutboxView) → ((to : ℕ) → outbox_in family n from xs to ≡ empty_outbox family n from to) →
     (to : ℕ) → IsOutboxTo family n from to (outbox_in family n from xs to)
 addressed_empty family n from xs empty to = subst (λ (o : OutboxView). IsOutboxTo family n from to o) (sym (empty to))
-    (record { of = (refl, refl, refl, refl); entries = All-nil HasItemEntries })
+    (record { of = (refl, refl, refl, refl) })
 
-added_to : (family : Family) (n from to : ℕ) (o : OutboxView) (s : Settlement) (targets : List ℕ) → IsEntry s.was → IsEntry s.now →
-    IsOutboxTo family n from to o → IsOutboxTo family n from to (added o s (items_of (λ _. targets) n to s))
-added_to family n from to o s targets was now is = record {
-  of = is.of;
-  entries = All-append HasItemEntries o.items _ is.entries (entries_of s was now (filter (λ p. owner_of n p == to) targets));
-}
+added_to : (family : Family) (n from to : ℕ) (o : OutboxView) (s : Settlement) (targets : List ℕ) → IsOutboxTo family n from to o →
+    IsOutboxTo family n from to (added o s (items_of (λ _. targets) n to s))
+added_to family n from to o s targets is = record { of = is.of }
 
-pub addressed_added : (family : Family) (targets : List ℕ) (s : Settlement) (n from : ℕ) (old new : List OutboxView) → IsEntry s.was → IsEntry s.now →
+pub addressed_added : (family : Family) (targets : List ℕ) (s : Settlement) (n from : ℕ) (old new : List OutboxView) →
     AreAdded targets s n from n old new → ((to : ℕ) → IsOutboxTo family n from to (outbox_in family n from old to)) →
     (to : ℕ) → IsOutboxTo family n from to (outbox_in family n from new to)
-addressed_added family targets s n from old new was now are all to = elim (cases_eq to from) [
+addressed_added family targets s n from old new are all to = elim (cases_eq to from) [
   | inl own ↦ rw (own, are.unsent (empty_outbox family n from from)) (all from)
   | inr apart ↦ elim (cases_lt to n) [
-    | inl low ↦ rw (are.sent to _ low apart) (added_to family n from to (outbox_in family n from old to) s targets was now (all to))
+    | inl low ↦ rw (are.sent to _ low apart) (added_to family n from to (outbox_in family n from old to) s targets (all to))
     | inr high ↦ rw (are.later to _ high) (all to)
   ]
 ]
 
 -- ---- what is empty
-
 pub all_empty : (xs : List OutboxView) → All (λ (o : OutboxView). o.items ≡ []) xs → (family : Family) (n from to : ℕ) → (outbox_in family n from xs to).items ≡ []
 all_empty xs all family n from to = elim (cases_lt to (length xs)) [
   | inl low ↦ all to (empty_outbox family n from to) low
@@ -95,8 +98,19 @@ pub empty_all : (xs : List OutboxView) (family : Family) (n from : ℕ) → ((to
     All (λ (o : OutboxView). o.items ≡ []) xs
 empty_all xs family n from empty = λ to default low. rw (get_or_default xs to default (empty_outbox family n from to) low) (empty to)
 
--- ---- a batch cut
+-- so it is of what the outboxes have to send
+pub sent_all : (xs : List OutboxState) → All (λ (o : OutboxState). o.sends.items ≡ []) xs → All (λ (o : OutboxView). o.items ≡ []) (sends_of xs)
+sent_all xs all = λ to default low.
+    let any : OutboxState = record { sends = default; room = 0 } in
+    let within : to < length xs = (let many = length-map xs (λ (o : OutboxState). o.sends) in omega (arith, many, low)) in
+    subst (λ (o : OutboxView). o.items ≡ []) (sym (get_or-map (λ (o : OutboxState). o.sends) xs to any default within)) (all to any within)
 
+pub all_sent : (xs : List OutboxState) → All (λ (o : OutboxView). o.items ≡ []) (sends_of xs) → All (λ (o : OutboxState). o.sends.items ≡ []) xs
+all_sent xs all = λ to default low.
+    let within : to < length (sends_of xs) = (let many = length-map xs (λ (o : OutboxState). o.sends) in omega (arith, many, low)) in
+    subst (λ (o : OutboxView). o.items ≡ []) (get_or-map (λ (o : OutboxState). o.sends) xs to default default.sends low) (all to default.sends within)
+
+-- ---- a batch cut
 pub cut_there : (to size : ℕ) (batch : BatchView) (old new : List OutboxView) (cut : OutboxView) → to < length old →
     ((default : OutboxView) → IsCut (get_or old to default) size batch cut) → new ≡ set old to cut → IsCutFrom to size batch old new
 cut_there to size batch old new cut low is new_is = record {
@@ -117,19 +131,12 @@ cut_read to size None old read cut low is given = given
 cut_read to size (Some batch) old read cut low is given = cut_there to size batch old (set old to cut) cut low
     (λ default. subst (λ (o : OutboxView). IsCut o size batch cut) (is ∙ get_or_default old to read default low) given) refl
 
--- what is left has the same values, and so has what is cut
+-- what is left is of the same link, and so is what is cut
 module _ {family : Family} {n from to size : ℕ} {batch : BatchView} {old new : OutboxView} (cut : IsCut old size batch new)
     (is : IsOutboxTo family n from to old) where
   cut_to : IsOutboxTo family n from to new
-  cut_to = record {
-    of = (cut.same_link.0 ∙ is.of.0, cut.same_link.1 ∙ is.of.1, cut.same_link.2 ∙ is.of.2, cut.same_link.3 ∙ is.of.3);
-    entries = rw cut.left (All-drop HasItemEntries size old.items is.entries);
-  }
+  cut_to = record { of = (cut.same_link.0 ∙ is.of.0, cut.same_link.1 ∙ is.of.1, cut.same_link.2 ∙ is.of.2, cut.same_link.3 ∙ is.of.3) }
 
-  pub cut_entries : All HasItemEntries batch.items
-  cut_entries = rw cut.items (All-take HasItemEntries size old.items is.entries)
-
-  -- the batch is of the same link
   pub cut_of : (batch.family ≡ family) × (batch.n ≡ n) × (batch.from ≡ from) × (batch.to ≡ to)
   cut_of = (cut.of_link.0 ∙ is.of.0, cut.of_link.1 ∙ is.of.1, cut.of_link.2 ∙ is.of.2, cut.of_link.3 ∙ is.of.3)
 
@@ -151,15 +158,14 @@ nothing_cut family n from own to size batch old new cut none = elim (cases_eq ow
 
 -- with one more settlement expanded
 pub sound_expanded : {node : NodeView} {targets : List ℕ} {s : Settlement} {own : List Item} {outboxes : List OutboxView} → IsSound node →
-    node.expanded + 1 ≤ length node.history.settlements → All HasItemEntries own → IsEntry s.was → IsEntry s.now →
+    node.expanded + 1 ≤ length node.history.settlements →
     AreAdded targets s (length node.outboxes) node.id (length node.outboxes) node.outboxes outboxes →
     IsSound (record node { expanded = node.expanded + 1; own = own; outboxes = outboxes })
-sound_expanded {node = node} {targets = targets} {s = s} {outboxes = outboxes} sound emitted entries was now are = record {
+sound_expanded {node = node} {targets = targets} {s = s} {outboxes = outboxes} sound emitted are = record {
   kept = sound.kept;
   emitted = emitted;
-  entries = entries;
   receivers = are.whole ∙ sound.receivers;
-  addressed = addressed_added node.family targets s node.n node.id node.outboxes outboxes was now (rw sound.receivers at are) sound.addressed;
+  addressed = addressed_added node.family targets s node.n node.id node.outboxes outboxes (rw sound.receivers at are) sound.addressed;
   nothing_to_self = ap (λ (o : OutboxView). o.items) (are.unsent (empty_outbox node.family node.n node.id node.id)) ∙ sound.nothing_to_self;
 }
 
@@ -170,57 +176,7 @@ sound_cut node to size None outboxes sound cut some = absurd (some refl)
 sound_cut node to size (Some batch) outboxes sound cut some = record {
   kept = sound.kept;
   emitted = sound.emitted;
-  entries = sound.entries;
   receivers = cut.whole ∙ sound.receivers;
   addressed = addressed_cut node.family node.n node.id to size batch node.outboxes outboxes cut sound.addressed;
   nothing_to_self = nothing_cut node.family node.n node.id node.id to size batch node.outboxes outboxes cut sound.nothing_to_self;
 }
-
--- ---- a settlement is taken back
-
--- the outboxes for the nodes so far have a settlement more, where nothing else has changed since
-pub one_more_each : {targets : List ℕ} {settlement : Settlement} {n from k : ℕ} {old mid new : List OutboxView} → n ≡ length old →
-    AreAdded targets settlement n from k old mid → new ≡ mid →
-    (let many = length old in
-    (family : Family) × (targets ≡ predecessors family settlement.class) × ((to : ℕ) → IsOutboxTo family many from to (outbox_in family many from old to))) →
-    HaveOneMore targets from k old new
-one_more_each {settlement = settlement} count so_far same of =
-    record { family = of.0; settlement = settlement; targets_are = of.1; addressed = of.2; are_added = rw (same, ← count) so_far }
-
--- the outboxes for the nodes so far are those before, the others as they were
-pub record AreBack (upto : ℕ) (before outboxes now : List OutboxView) : Type 0 where
-  pub whole : length now ≡ length before
-  pub back : (to : ℕ) (default : OutboxView) → to < upto → get_or now to default ≡ get_or before to default
-  pub later : (to : ℕ) (default : OutboxView) → upto ≤ to → get_or now to default ≡ get_or outboxes to default
-
-module _ {targets : List ℕ} {from upto : ℕ} {before outboxes : List OutboxView} (more : HaveOneMore targets from upto before outboxes) where
-  pub back_none : AreBack 0 before outboxes outboxes
-  back_none = grind (arith, more.are_added.whole)
-
-  -- the outbox for the next node, of as many, has one settlement more
-  pub one_more : {k many count : ℕ} {now : List OutboxView} (default : OutboxView) → AreBack k before outboxes now → k < upto → upto ≤ many →
-      many ≡ length outboxes → k ≢ from → count ≡ length (items_of (λ _. targets) many k more.settlement) →
-      HasOneMore (get_or before k default) count (get_or now k default)
-  one_more {k = k} default so_far low within many_is other count_is =
-      let inside : k < length before = omega (arith, low, within, many_is, more.are_added.whole) in record {
-        settlement = more.settlement;
-        items = items_of (λ _. targets) (length before) k more.settlement;
-        items_are = asked_of more.settlement
-            (rw (get_or_default before k (empty_outbox more.family (length before) from k) default inside) at (more.addressed k)) more.targets_are refl;
-        many = rw (← more.are_added.whole, ← many_is) (sym count_is);
-        outbox_is = so_far.later k default (omega arith) ∙ more.are_added.sent k default low other;
-      }
-
-  pub back_one : {k : ℕ} {now new : List OutboxView} → AreBack k before outboxes now → k < length before →
-      ((default : OutboxView) → new ≡ set now k (get_or before k default)) → AreBack (k + 1) before outboxes new
-  back_one so_far within is = grind (arith, is (empty_outbox more.family 0 0 0), is, length-set, get_or-set_same, get_or-set_other, so_far.whole)
-
-  -- nothing was added to the node's own outbox
-  pub back_own : {k : ℕ} {now : List OutboxView} → AreBack k before outboxes now → k ≡ from → AreBack (k + 1) before outboxes now
-  back_own so_far own = grind (arith, so_far.later from, more.are_added.unsent, so_far.later, so_far.back)
-
-  pub back_all : {now : List OutboxView} → AreBack upto before outboxes now → now ≡ before
-  back_all {now = now} so_far = same_lists now before so_far.whole (λ k default low. elim (cases_lt k upto) [
-    | inl less ↦ so_far.back k default less
-    | inr high ↦ so_far.later k default high ∙ more.are_added.later k default high
-  ])

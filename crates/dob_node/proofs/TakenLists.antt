@@ -1,9 +1,12 @@
 -- Items that a node takes one after the other, from a batch and from its own: what the node has then, whose history may have had other room before.
-use Rattle.dob_node.proofs.Common.{◌∙◌, ◌≡◌, ◌≢◌, All, AppliesAll, AreTaken, AreTakenBefore, Cause, Err, HasItemEntries, HasItemFault, HasTaken}
+use Rattle.dob_node.proofs.Common.{◌∙◌, ◌≡◌, ◌≢◌, AppliesAll, AreTaken, AreTakenBefore, Cause, Err, HasItemFault, HasTaken}
 use Rattle.dob_node.proofs.Common.{HasTakenBefore, HistoryView, IfErr, IsHistory, IsSound, IsUnchanged, Item, List, NodeView, Ok, Result, Share, StayKept}
 use Rattle.dob_node.proofs.Common.{StopsAt, StopsFirst, length, refl, subst, ℕ}
+use Rattle.std.proofs.Common.{drop}
+use Rattle.dob_node.proofs.Common.{◌<◌, ◌∷◌, ◌≤◌, None, Some, [], ap, arith, length-append, slice_get}
+use Rattle.std.specs.Prelude.{OnOk}
 use Rattle.dob_history.proofs.Kepts.{kept_back}
-use Rattle.dob_stops.specs.declared.cause.Cause.TheVariants as cause
+use Rattle.dob_share.specs.declared.cause.Cause.TheVariants as cause
 use Rattle.dob_history.proofs.TakenLists.{all_with_room, stops_with_room, emitted_all, kept_with_room}
 
 -- ---- what is taken of a node, whose history may have had other room
@@ -43,18 +46,30 @@ module _ {node : NodeView} {after : Share} {mid grown : HistoryView} (same : IsH
 
   -- it stays sound
   pub still_sound : (items : List Item) {own : List Item} {count : ℕ} → IsSound node → AreTaken items node.share after mid grown →
-      StayKept node.share mid after grown → All HasItemEntries own → IsSound (record node { share = after; history = grown; own = own; taken = count })
-  still_sound items sound taken still entries = record {
+      StayKept node.share mid after grown → IsSound (record node { share = after; history = grown; own = own; taken = count })
+  still_sound items sound taken still = record {
     kept = kept_back (kept_with_room node.family node.n node.id node.share node.history mid same sound.kept) still;
     emitted = emitted_all items node.share after node.history grown node.expanded (all_with_room items node.share after node.history mid grown same taken) sound.emitted;
-    entries = entries;
     receivers = sound.receivers;
     addressed = sound.addressed;
     nothing_to_self = sound.nothing_to_self;
   }
 
--- ---- what is taken of a node that made room before
+-- where room is refused, none is taken
+pub none_before : {node : NodeView} {mid : HistoryView} (items : List Item) → 0 < length items → IsHistory node.history mid →
+    HasTakenBefore items node (record node { history = mid; taken = 0 }) cause.Memory
+none_before [] some same = absurd (omega (arith, some))
+none_before (item ∷ behind) some same = record {
+  front = [];
+  item = item;
+  behind = behind;
+  items_are = refl;
+  counted = refl;
+  taken = record { taken = (refl, same); same = (refl, refl, refl, refl); own = refl; outboxes = refl };
+  reason = tt;
+}
 
+-- ---- what is taken of a node that made room before
 pub taken_since : (items : List Item) (old mid new : NodeView) → IsUnchanged old mid → HasTaken items mid new → HasTaken items old new
 taken_since items old mid new same taken = record {
   taken = all_with_room items old.share new.share old.history mid.history new.history same.kept.1
@@ -83,3 +98,21 @@ pub fault_of : (result : Result (Unit {0}) Cause) (node : NodeView) → IfErr re
     IfErr result (λ why. HasItemFault node why)
 fault_of (Ok done) node stops = tt
 fault_of (Err why) node stops = record { item = stops.item; behind = stops.behind; first = stops.first; reason = stops.reason }
+
+-- no more are taken than there are
+pub taken_within : (share after : Share) (history grown : HistoryView) (result : Result (Unit {0}) Cause) (queue : List Item) (count : ℕ) → OnOk result (count ≡ length queue) →
+    IfErr result (λ why. AreTakenBefore queue count share after history grown why) → count ≤ length queue
+taken_within share after history grown (Ok done) queue count all before = omega (arith, all)
+taken_within share after history grown (Err why) queue count all before =
+    omega (arith, before.counted, ap length before.items_are, length-append before.front (before.item ∷ before.behind))
+
+-- ---- lists
+
+-- the first of a list, and those behind it
+pub first_there : {X : Type 0} (xs : List X) (x : X) → slice_get xs 0 ≡ Some x → xs ≡ x ∷ drop 1 xs
+first_there [] x is = absurd (cc)
+first_there (y ∷ xs) x is = cc
+
+pub none_first : {X : Type 0} (xs : List X) → slice_get xs 0 ≡ None → xs ≡ []
+none_first [] is = refl
+none_first (x ∷ xs) is = cc

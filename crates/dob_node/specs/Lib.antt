@@ -1,4 +1,3 @@
-pub mod WaitingItems
 pub mod Outboxes
 pub mod NodeViews
 pub mod Levels

@@ -3,8 +3,8 @@ use Rattle.std.specs.Prelude.{◌≡◌, ◌≢◌, ℕ, ◌^◌, ◌<◌, ◌�
 use Rattle.std.specs.Prelude.{Option, None, Some, Result, Ok, Err, IfOk, IfErr, IfSome, OnOk, OnErr}
 use Rattle.dob_share.specs.declared.news.Item.{Item}
 use Rattle.dob_update.specs.Batches.{BatchView}
-use Rattle.dob_stops.specs.declared.cause.Cause.{Cause}
-use Rattle.dob_stops.specs.declared.cause.Cause.TheVariants.{Memory, Counts}
+use Rattle.dob_share.specs.declared.cause.Cause.{Cause}
+use Rattle.dob_share.specs.declared.cause.Cause.TheVariants.{Memory, Counts}
 use Rattle.dob_node.specs.NodeViews.{NodeView}
 use Rattle.dob_history.specs.TakenItems.{StopsAt}
 use Rattle.dob_node.specs.Nodes.{outbox_to, IsSound, IsExpanded, HasApplied, HasAppliedItems, HasItemFault, HasTaken, HasTakenBefore, HasCut, IsUnchanged}

@@ -4,9 +4,11 @@ use Rattle.dob_pieces.specs.declared.profile.Family.{Family}
 use Rattle.dob_share.specs.declared.news.Item.{Item}
 use Rattle.dob_share.specs.declared.share.Share.{Share}
 use Rattle.dob_update.specs.Batches.{OutboxView}
-use Rattle.dob_stops.specs.declared.cause.Cause.{Cause}
+use Rattle.dob_share.specs.declared.cause.Cause.{Cause}
 use Rattle.dob_node.specs.declared.node_core.Core.{Core}
 use Rattle.dob_history.specs.Stores.{HistoryView}
+use Rattle.dob_update.specs.Queues.{queued}
+use Rattle.dob_node.specs.Outboxes.{sends_of}
 
 -- The node of owner `id`, one of n, of a family's classes: its cells, its history and how many settlements of it are expanded, the
 -- items for itself, what it has to send to each node, how many items were applied of the last batch, and why it has failed.
@@ -31,8 +33,8 @@ node_of core failed = record {
   share = core.share;
   history = core.history;
   expanded = core.expanded;
-  own = core.own.items;
-  outboxes = core.outboxes.items;
+  own = queued core.own;
+  outboxes = sends_of core.outboxes.items;
   taken = core.taken;
   failed = failed;
 }

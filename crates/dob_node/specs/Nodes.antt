@@ -1,6 +1,5 @@
 -- A node as it is opened, and what its steps make of it.
 use Rattle.std.specs.Prelude.{◌≡◌, ◌≢◌, ℕ, ◌+◌, ◌*◌, ◌<◌, ◌≤◌, ◌↔◌, List, [], ◌∷◌, ◌++◌, length, slice_get, None, Some}
-use Rattle.std.specs.List.{All}
 use Rattle.dob_pieces.specs.declared.profile.Family.{Family}
 use Rattle.dob_distance.specs.declared.value.Value.{Value}
 use Rattle.dob_unmove.specs.Edges.{predecessors}
@@ -14,24 +13,22 @@ use Rattle.dob_share.specs.Openings.{opening_of}
 use Rattle.dob_share.specs.Shares.{places_of, IsOwn, IsNewShare, status_at, cell_at, HasValueNow}
 use Rattle.dob_share.specs.Items.{items_of}
 use Rattle.dob_update.specs.Batches.{BatchView, OutboxView, empty_outbox, added, IsCut}
-use Rattle.dob_stops.specs.declared.cause.Cause.{Cause}
+use Rattle.dob_share.specs.declared.cause.Cause.{Cause}
 use Rattle.dob_node.specs.NodeViews.{NodeView}
-use Rattle.dob_lawful.specs.Openings.{AreOpenings}
+use Rattle.dob_history.specs.Openings.{AreOpenings}
 use Rattle.dob_history.specs.OpeningLists.{opening_settlements, opening_status}
-use Rattle.dob_history.specs.TakenItems.{HasItemEntries, AreKept, IsHistory, IsTaken, AreTaken, IsReason}
+use Rattle.dob_history.specs.TakenItems.{AreKept, IsHistory, IsTaken, AreTaken, IsReason}
 use Rattle.dob_node.specs.Outboxes.{outbox_in, IsOutboxTo}
 
 -- what the node has still to send to another
 abbrev pub outbox_to : NodeView → ℕ → OutboxView
 outbox_to node to = outbox_in node.family node.n node.id node.outboxes to
 
--- The node keeps its cells and its history; it has expanded only what the history has; it has an outbox for each node,
--- and nothing in the one for itself; and the items that it has to apply and to send have such values as a table can
--- have.
+-- The node keeps its cells and its history; it has expanded only what the history has; and it has an outbox for each
+-- node, and nothing in the one for itself.
 pub record IsSound (node : NodeView) : Type 0 where
   pub kept : AreKept node.family node.n node.id node.share node.history
   pub emitted : node.expanded ≤ length node.history.settlements
-  pub entries : All HasItemEntries node.own
   pub receivers : length node.outboxes ≡ node.n
   pub addressed : (to : ℕ) → IsOutboxTo node.family node.n node.id to (outbox_to node to)
   pub nothing_to_self : (outbox_to node node.id).items ≡ []
@@ -115,7 +112,6 @@ pub record HasTakenBefore (items : List Item) (old new : NodeView) (why : Cause)
 pub record HasCut (to size : ℕ) (batch : BatchView) (old new : NodeView) : Type 0 where
   pub of : (batch.family ≡ old.family) × (batch.n ≡ old.n) × (batch.from ≡ old.id) × (batch.to ≡ to)
   pub cut : IsCut (outbox_to old to) size batch (outbox_to new to)
-  pub entries : All HasItemEntries batch.items
   pub others : (other : ℕ) → other ≢ to → outbox_to new other ≡ outbox_to old other
   pub same : (new.family ≡ old.family) × (new.id ≡ old.id) × (new.n ≡ old.n) × (new.expanded ≡ old.expanded)
   pub kept : (new.share ≡ old.share) × (new.history ≡ old.history) × (new.own ≡ old.own)

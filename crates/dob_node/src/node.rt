@@ -1,22 +1,17 @@
 // A node: what its steps change, and what has failed of them. Once a step has failed, none is made.
 ghost use Rattle.std.specs.Prelude.{◌≡◌, ◌<◌, ◌≤◌, ◌^◌, ◌↔◌, length, slice_get, None, Some, IsTrue, IfOk, IfErr, OnOk, MatchOption};
-ghost use Rattle.std.specs.List.{All};
 ghost use Rattle.dob_history.specs.Stores.{starts_of};
-ghost use Rattle.dob_history.specs.TakenItems.{HasItemEntries};
 ghost use Rattle.dob_node.specs.Nodes.{IsSound, IsShareOf, IsOpenedBy};
 
 use crate::node_core::Core;
 use crate::outboxes::{are_empty, empty_outboxes};
-use crate::own_items::OwnItems;
 use dob_classes::Classes;
-use dob_history::{History, StartStatuses};
-use dob_lawful::own_openings;
+use dob_history::{History, StartStatuses, own_openings};
 use dob_lists::{SegmentLength, Segments};
 use dob_pieces::{Family, Memory};
 use dob_safra::NodeCount;
-use dob_share::{Item, Opening, Settlement, Share};
-use dob_stops::Cause;
-use dob_update::{Batch, BatchSize};
+use dob_share::{Cause, Item, Opening, Settlement, Share};
+use dob_update::{Batch, BatchSize, ItemQueue};
 use dob_value::Value;
 use std::alloc::Global;
 use std::marker::Model;
@@ -45,7 +40,7 @@ pub struct Part {
 }
 
 impl Node {
-    ghost use Rattle.dob_lawful.specs.Openings.{AreOpenings};
+    ghost use Rattle.dob_history.specs.Openings.{AreOpenings};
     ghost use Rattle.dob_node.specs.Nodes.{outbox_to, IsOpened, IsOpenedOf, IsIdle, AreValuesNow};
     ghost use Rattle.dob_node.specs.Levels.{HasLevel};
     ghost use Rattle.dob_node.specs.NodeSteps.{Keeps, Expands, AppliesOwn, AppliesEveryOwn, AppliesAll, MakesRoom, Cuts};
@@ -145,8 +140,8 @@ impl Node {
         noted(&mut self.failed, self.core.apply_every_own())
     }
 
-    /// Applies the items of a batch in order. The batch has to be of the node's family and number of nodes, and its items have to have
-    /// values that a table can have, which `have_entries` tests. An item for a class of another node doesn't fit. It makes its growths first.
+    /// Applies the items of a batch in order. The batch has to be of the node's family and number of nodes. An item for a class of another
+    /// node doesn't fit. It makes its growths first.
     ///
     /// # Errors
     ///
@@ -157,7 +152,6 @@ impl Node {
         requires sound { IsSound self.old }
         requires family { batch.now.family ≡ self.old.family }
         requires n { batch.now.n ≡ self.old.n }
-        requires entries { All HasItemEntries batch.now.items }
         requires going { self.old.failed ≡ None }
         ensures step { AppliesAll batch.now.items result self.old self.new }
         ensures keeps { Keeps result self.new }
@@ -331,7 +325,7 @@ fn node_with(
         share,
         history,
         expanded: 0,
-        own: OwnItems::new(alloc),
+        own: ItemQueue::new(alloc),
         outboxes,
         targets: Vec::new(alloc),
         taken: 0,

@@ -1,18 +1,14 @@
 // What a node's steps change: its cells, its history, its own items and its outboxes. A step that fails leaves no note here.
 ghost use Rattle.std.specs.Prelude.{◌≡◌, ◌<◌, IfOk};
-ghost use Rattle.std.specs.List.{All};
-ghost use Rattle.dob_history.specs.TakenItems.{HasItemEntries};
 
-use crate::outboxes::add_for_others;
-use crate::own_items::OwnItems;
+use crate::outboxes::{add_for_others, reserve_for_others};
 use dob_classes::Classes;
 use dob_history::{History, take_parts};
 use dob_pieces::{Family, Memory};
 use dob_safra::NodeCount;
-use dob_share::Share;
-use dob_stops::Cause;
+use dob_share::{Cause, Share};
 use dob_unmove::back_into;
-use dob_update::{Batch, BatchSize, Outbox};
+use dob_update::{Batch, BatchSize, ItemQueue, Outbox};
 use dob_value::Value;
 use std::alloc::Global;
 use std::mem;
@@ -31,7 +27,7 @@ pub(crate) struct Core {
     pub(crate) share: Share,
     pub(crate) history: History,
     pub(crate) expanded: u64,
-    pub(crate) own: OwnItems,
+    pub(crate) own: ItemQueue,
     pub(crate) outboxes: Vec<Outbox>,
     // A list whose room each expansion uses again.
     pub(crate) targets: Vec<u64>,
@@ -58,8 +54,10 @@ impl Core {
         let room = mem::replace(&mut self.targets, Vec::new(self.alloc));
         let targets = back_into(room, classes, settlement.class)?;
         self.own.reserve(targets.len())?;
-        add_for_others(&mut self.outboxes, settlement, &targets, self.id)?;
-        self.own.add(settlement, &targets, self.nodes, self.id);
+        reserve_for_others(&mut self.outboxes, targets.len(), self.id)?;
+        add_for_others(&mut self.outboxes, settlement, &targets, self.id);
+        self.own
+            .add_owned(settlement, &targets, self.nodes.get(), self.id);
         self.targets = targets;
         self.expanded += 1;
         Ok(true)
@@ -76,7 +74,7 @@ impl Core {
         };
         let seen = self.share.see(item.to);
         self.history.take_seen(&mut self.share, item, seen)?;
-        self.own.drop_first();
+        self.own.drop_front(1);
         Ok(true)
     }
 
@@ -86,13 +84,21 @@ impl Core {
         ensures step { AppliesEveryOwn result (going self.old) (going self.new) }
         ensures sound { IsSound (going self.new) }
     {
-        self.own.apply(&mut self.share, &mut self.history)
+        let mut taken = 0;
+        let answer = take_parts(
+            &mut self.share,
+            &mut self.history,
+            &mut taken,
+            self.own.parts(),
+            self.own.classes(),
+        );
+        self.own.drop_front(taken);
+        answer
     }
 
     /// Applies the items of a batch in order, and makes its growths first.
     pub(crate) fn apply_batch(&mut self, batch: &Batch) -> Result<(), Cause>
-        requires sound { IsSound (going self.old) }
-        requires entries { All HasItemEntries batch.now.items }
+        requires { IsSound (going self.old) }
         ensures step { AppliesAll batch.now.items result (going self.old) (going self.new) }
         ensures sound { IsSound (going self.new) }
     {

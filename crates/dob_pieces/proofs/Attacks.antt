@@ -7,7 +7,6 @@ use Rattle.std.proofs.Math.Bool.{or-false}
 use Rattle.dob_pieces.proofs.MaskBits.{IsMask-same, lowest_is, some_passes}
 
 -- ---- the lions
-
 lion_by : (side own : Side) (kind : Kind) → (is_side side own && is_lion kind) ≡ true → (own ≡ side) × (kind ≡ Lion)
 lion_by Mover Mover Lion h = (refl, refl)
 lion_by Enemy Enemy Lion h = (refl, refl)
@@ -75,7 +74,6 @@ pub attackers_are : (p : Setup) (target mask : ℕ) → IsMask (λ from. any_kin
 attackers_are p target mask are = IsMask-same _ (λ from. attacks p from target) mask (λ from lt. any_attacks (at p from) from target) are
 
 -- ---- who attacks
-
 by_side : (piece : Piece) (from to : ℕ) → (is_side Mover piece.side && leads piece.kind from to) ≡ true
     → (piece.side ≡ Mover) × (leads piece.kind from to ≡ true)
 by_side piece from to h = grind arith

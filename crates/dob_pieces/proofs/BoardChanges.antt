@@ -104,7 +104,6 @@ module _ (before after : Setup) (square : ℕ) (lt : square < 12) (b : Board) (a
     nothing_added w = all_grown before after square None lt w empty b b are refl refl refl refl refl refl refl refl
 
 -- ---- a setup with one square changed
-
 abbrev pub with_cell : Setup → ℕ → Cell → Setup
 with_cell s square cell = record s { board = set s.board square cell }
 

@@ -11,7 +11,6 @@ unfoldable use Rattle.dob_pieces.specs.Boards.{planes_of}
 use Rattle.dob_pieces.proofs.CellPlanes.{IsRead, are_squares, from_start, mask_of, mask_of-small, plane, word_by, word_by-parts, word_by-small}
 
 -- ---- five sets, each with the squares that pass its test
-
 abbrev word_of : List Cell → ℕ
 word_of cells =
     word_by (mask_of is_any_lion cells) (mask_of is_foe cells) (mask_of is_chick cells) (mask_of is_elephant cells) (mask_of is_giraffe_or_hen cells)
@@ -65,7 +64,6 @@ has_planes setup word twelve is =
     }
 
 -- ---- the pass over the board
-
 cell_read : (board : List Cell) (i : ℕ) → i < length board → planes_of (drop i board) ≡ 2 * planes_of (drop (suc i) board) + entry (slice_index_or board i None)
 unfolding planes_of
 cell_read board i lt = ap planes_of (drop-cons board i None lt)
@@ -90,7 +88,6 @@ none_read (a ∷ b ∷ c ∷ d ∷ e ∷ i ∷ j ∷ k ∷ l ∷ m ∷ n ∷ o �
 none_read board twelve = absurd (omega arith)
 
 -- ---- a piece more
-
 planes_same : (before after : List Cell) → length after ≡ length before
     → ((j : ℕ) → j < length before → slice_index_or after j None ≡ slice_index_or before j None) → planes_of after ≡ planes_of before
 planes_same before after long same = ap planes_of (ext_get_or None after before long (λ i lt. same i (rw long at lt)))

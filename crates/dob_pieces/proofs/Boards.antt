@@ -10,7 +10,6 @@ use Rattle.dob_pieces.specs.declared.kind.HandKind.{HandKind}
 use Rattle.dob_pieces.specs.Setups.{holds_kind, total, HasFewPieces, HasLionOffFarRow}
 
 -- ---- boards made square by square
-
 pub at-board_by : (f : ℕ → Cell) (k : ℕ) → k < 12 → slice_index_or (board_by f) k None ≡ f k
 at-board_by f k h = get_or-map-range_with_len f 0 12 k k None h (omega arith)
 
@@ -83,7 +82,6 @@ sum-mirrored f (a ∷ b ∷ c ∷ d ∷ e ∷ i ∷ j ∷ k ∷ l ∷ m ∷ n �
 sum-mirrored f board eq = absurd (omega arith)
 
 -- ---- counts of a turned and of a mirrored board
-
 turned-holds_kind : (kind : HandKind) (cell : Cell) → holds_kind kind (turned_cell cell) ≡ holds_kind kind cell
 turned-holds_kind kind None = refl
 turned-holds_kind kind (Some piece) = refl
@@ -118,7 +116,6 @@ unfolding mirrored
 lions-mirrored side s e = sum-mirrored (λ cell. one_if (holds_lion side cell)) s.board e
 
 -- ---- what turning and mirroring keep of a legal setup
-
 pub HasLions-turned : (s : Setup) → length s.board ≡ 12 → HasLions s → HasLions (turned s)
 HasLions-turned s e h side = lions-turned side s e ∙ h (other_side side)
 

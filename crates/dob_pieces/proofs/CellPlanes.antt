@@ -56,7 +56,6 @@ pub word_by-parts : (a b c d e : ℕ) → a < 4096 → b < 4096 → c < 4096 →
 word_by-parts a b c d e small-a small-b small-c small-d small-e = grind arith
 
 -- ---- the pass over the board
-
 pub from_start : (board : List Cell) (square : ℕ) → length board ≡ 12 → length (drop square board) ≤ 12
 from_start board square twelve = omega (arith, length-drop square board)
 
@@ -67,7 +66,6 @@ pub record IsRead (word next bound : ℕ) (after : ℕ) : Type 0 where
   pub next_is : next ≡ after
 
 -- ---- what a set says of each cell
-
 abbrev pub all_cells : List Cell
 all_cells =
     None

@@ -43,7 +43,6 @@ AreSquares-mirrored setup test mask result mirrors is =
     (λ s lt. ap test (sym (at-mirrored setup s lt))) (mirrors (λ s. test (at setup s)) is)
 
 -- ---- a half turn, which exchanges the rows of the mirror image
-
 abbrev flipped : ℕ → ℕ
 flipped mask =
     bit_or (bit_or (bit_or (bit_and mask 7 * 2 ^ 9 % 2 ^ 16) (bit_and mask 56 * 2 ^ 3 % 2 ^ 16)) (bit_and (mask / 2 ^ 3) 56)) (mask / 2 ^ 9)

@@ -109,7 +109,6 @@ module _ {X : Type 0} (place : X → ℕ) where
       (rising-pairs (suc (place x)) high xs r.1)
 
 -- ---- two lists of numbers compared by a test that computes
-
 abbrev pub same_list : List ℕ → List ℕ → Bool
 same_list [] [] = true
 same_list [] (y ∷ ys) = false

@@ -111,7 +111,6 @@ pub mask_by_bits : (test : ℕ → Bool) (mask : ℕ) → IsMask test mask → m
 mask_by_bits test mask is = grind (arith, mask_l-lt, same_from_bits_below, bit_mask_l, get_or-map-range_with_len)
 
 -- ---- one square more
-
 pub bit-small : (square : ℕ) → square < 12 → bit square < 2 ^ 12
 bit-small square lt =
     let le : square ≤ 11 = omega (arith, lt) in

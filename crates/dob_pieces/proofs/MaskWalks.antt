@@ -15,7 +15,6 @@ use Rattle.std.proofs.lemmas.Nat.{ones-le}
 use Rattle.std.proofs.lemmas.Nat.Bits.{bit_at-trailing_zeros, bit_at_clear_other, bit_at_clear_same}
 
 -- ---- numbers of a range that pass
-
 filter_same : (p q : ℕ → Bool) (a n : ℕ) → ((k : ℕ) → a ≤ k → k < a + n → p k ≡ q k) → filter p (range_with_len a n) ≡ filter q (range_with_len a n)
 filter_same p q a zero same = refl
 filter_same p q a (suc n) same =
@@ -36,7 +35,6 @@ filter_first p q a (suc n) place le lt on before off others = elim (cases_eq a p
 ]
 
 -- ---- the squares that pass a test
-
 unfoldable pub passing : (ℕ → Bool) → List ℕ
 passing test = filter test (range_with_len 0 12)
 

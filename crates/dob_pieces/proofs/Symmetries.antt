@@ -6,7 +6,6 @@ use Rattle.dob_pieces.proofs.Boards.{at-board_by, board_by-from_cells, at-turned
 use Rattle.dob_pieces.proofs.Boards.{IsLegal-mirrored}
 
 -- ---- squares
-
 pub turned_square_twice : (k : ℕ) → k < 12 → turned_square (turned_square k) ≡ k
 turned_square_twice k lt = omega arith
 
@@ -21,7 +20,6 @@ pub mirrored-turned_square : (k : ℕ) → k < 12 → mirrored_square (turned_sq
 mirrored-turned_square k lt = grind (arith, all_below-at)
 
 -- ---- pieces
-
 pub other_side_twice : (side : Side) → other_side (other_side side) ≡ side
 other_side_twice Mover = refl
 other_side_twice Enemy = refl

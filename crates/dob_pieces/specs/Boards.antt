@@ -59,7 +59,6 @@ abbrev pub HasTwoLions : Setup → Type 0
 HasTwoLions setup = (length setup.board ≡ 12) × HasLions setup
 
 -- ---- sets in one word, twelve bits each
-
 abbrev pub is_any_lion : Cell → Bool
 is_any_lion cell = is_own_lion cell || is_enemy_lion cell
 

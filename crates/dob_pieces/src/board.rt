@@ -169,7 +169,7 @@ impl Board {
             .or(self.attackers_of(Kind::Hen, target))
     }
 
-    // Those of that kind.
+    // The mover's pieces of that kind that attack the square.
     #[inline(always)]
     fn attackers_of(&self, kind: Kind, target: Square) -> SquareSet
         ensures { (setup : Setup) → IsBoardOf setup self.now → AreAttackersOf setup target kind result }

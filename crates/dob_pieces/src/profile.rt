@@ -11,9 +11,9 @@ use std::fmt;
 /// A profile of the rules: whether a chick may be dropped on its far row, and so stand there.
 #[derive(Clone, Copy, PartialEq, Eq)]
 pub enum Profile {
-    /// It may.
+    /// A chick may stand on its own far row.
     A,
-    /// It may not: a position has no chick on its own far row, the mover's on row 4 or the enemy's on row 1.
+    /// No chick may: not the mover's on row 4, nor the enemy's on row 1.
     B,
 }
 

@@ -15,7 +15,6 @@ use Rattle.std.proofs.lemmas.List.{take-append-drop}
 use Rattle.dob_pieces.proofs.Lists.{cons_cases, head_in}
 
 -- ---- values by preference
-
 better_still : (x y z : Value) → IsBetter x y → IsBetter y z → IsBetter x z
 better_still x y z h k = grind arith
 
@@ -61,7 +60,6 @@ module _ (xs : List ValuedMove) (i : ℕ) (y : ValuedMove) (within : i ≤ lengt
       ]
 
 -- ---- the moves of the first legal
-
 pub record AreListed (profile : Profile) (Has : Setup → Value → Type 0) (p : Setup) (legal : List Move) (upto : ℕ) (list : List ValuedMove) : Type 0 where
   pub sound : (valued : ValuedMove) → Contains list valued → HasMoveValue profile Has p valued
   pub whole : (index : ℕ) (played : Move) → index < upto → slice_get legal index ≡ Some played
@@ -137,7 +135,6 @@ said_valued family Said Has there one p member list are = record {
 }
 
 -- ---- by the value table the values are the right ones
-
 pub valued_rightly : (table : ClassTable) → IsValueTable table.family table.values → (p : Setup) → IsPositionOf table.family p → (list : List ValuedMove)
     → AreValuedMoves table.family.profile (GivenBy table) p list → AreValuedMoves table.family.profile (HasValue table.family.profile) p list
 valued_rightly table right p is list are = valued_best table right p list is are

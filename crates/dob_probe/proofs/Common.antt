@@ -28,7 +28,7 @@ pub use Rattle.dob_classes.proofs.OfFamilies.FamilyNumbers.{IsInClass-class_numb
 pub use Rattle.dob_classes.specs.Views.{IsShown}
 pub use Rattle.dob_value.proofs.ClassNumbers.{one_entry, one_of_class}
 pub use Rattle.dob_value.proofs.Consistency.{consistent_is_right}
-pub use Rattle.dob_value.proofs.Successors.{AreSuccessorsBelow, move_goes, moves_keep_the_family}
+pub use Rattle.dob_value.proofs.Successors.{AreSuccessorsBelow, moves_keep_the_family}
 pub use Rattle.dob_distance.specs.Distances.{IsLeastLoss, greater_of, lesser_of}
 pub use Rattle.dob_distance.specs.Codes.{IsEntry}
 pub use Rattle.dob_value.specs.Follows.{ClassTable, FollowsFromSuccessors, IsConsistent, IsTable, IsValueTable}

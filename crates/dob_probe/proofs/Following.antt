@@ -108,7 +108,6 @@ module _ (table : ClassTable) (class : ℕ) (representative : Setup) (v : Value)
   }
 
 -- ---- all classes
-
 pub consistent_of_all : (table : ClassTable) → IsTable table.family table.values →
     ((class : ℕ) → class < length table.values → ClassFollows table class) → IsConsistent table.family table.values
 consistent_of_all table whole all = record {

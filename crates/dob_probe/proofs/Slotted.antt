@@ -20,7 +20,6 @@ pub one_of_code : (v w : Value) → IsEntry v → IsEntry w → code_of_value v 
 one_of_code v w a b e = grind arith
 
 -- ---- what is counted
-
 count_one : (p : Value → Bool) (v : Value) → count_by p (v ∷ []) ≡ cond (p v) 1 0
 count_one p v = sum_by-cons (λ x. cond {A = ℕ} (p x) 1 0) v [] ∙ omega arith
 
@@ -130,7 +129,6 @@ module _ (xs ys : List Value) (classes : ℕ) (long : length xs ≡ classes) (fe
   ]
 
 -- ---- one value more
-
 abbrev single : Value → Group
 single v = record { value = v; classes = 1; first = 0 }
 
@@ -221,7 +219,6 @@ module _ (values : List Value) where
       rw (← take-take first (first + count) values (omega arith), ← drop-take first count values) (take-append-drop first (take (first + count) values))
 
 -- ---- the groups that are there
-
 pub record AreFirstGroups (slots : List (Option Group)) (upto : ℕ) (groups : List Group) : Type 0 where
   pub sound : (group : Group) → Contains groups group → (k : ℕ) × (k < upto) × (get_or slots k None ≡ Some group)
   pub whole : (k : ℕ) (group : Group) → k < upto → get_or slots k None ≡ Some group → Contains groups group

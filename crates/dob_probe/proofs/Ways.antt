@@ -1,7 +1,7 @@
 -- Lines as they grow, and where they break off.
 use Rattle.dob_probe.proofs.Common.{◌++◌, ◌+◌, ◌<◌, ◌∙◌, ◌∷◌, ◌≡◌, ◌≤◌, ◌⊎◌, Err, IfErr, IfOk, List, None, Ok, Result, Some, [], ap, append-nil, arith}
-use Rattle.dob_probe.proofs.Common.{get_or, inl, inr, length, refl, slice_get, subst, sym, ℕ, same_Some, slice_get_read, before_or_here, standing, Profile}
-use Rattle.dob_probe.proofs.Common.{Setup, Goes-is, Goes, AreMoves, CanCatch, IsFirstCatch, Move, IsInClass, IsPositionOf, move_goes, moves_keep_the_family}
+use Rattle.dob_probe.proofs.Common.{inl, inr, length, refl, slice_get, subst, sym, ℕ, same_Some, before_or_here, standing, Profile}
+use Rattle.dob_probe.proofs.Common.{Setup, Goes-is, Goes, AreMoves, CanCatch, IsFirstCatch, Move, HasStatus, IsInClass, IsPositionOf, Open, moves_keep_the_family}
 use Rattle.dob_probe.proofs.Common.{ClassTable, Value, IsFaultOfLine, Begins, BreaksAt, Continues, EndsAt, GivenBy, GoesOnTo}
 use Rattle.dob_probe.proofs.Common.{IsFirstTo, IsLine, LacksMove, LeadsTo, value_wanted, Fault, Inconsistent, Memory}
 use Rattle.dob_pieces.specs.declared.profile.Family.{Family}
@@ -43,17 +43,14 @@ module _ (profile : Profile) (Has : Setup → Value → Type 0) (p : Setup) (wan
   ]
 
   -- the move at the index is looked at, and none below it leads to the value
-  module _ (index : ℕ) (played : Move) (are : AreMoves profile p legal) (within : index < length legal) (read : played ≡ get_or legal index played)
+  module _ (index : ℕ) (played : Move) (are : AreMoves profile p legal) (goes_on : HasStatus profile p Open) (here : slice_get legal index ≡ Some played)
       (none : NoneBelow profile Has p wanted legal index) where
-    here : slice_get legal index ≡ Some played
-    here = slice_get_read legal _ index played refl within read
-
     pub none_here : ((q : Setup) → ¬ LeadsTo profile Has p wanted played q) → NoneBelow profile Has p wanted legal (index + 1)
     none_here other = none_below_more index played here other none
 
     pub first_here : (q : Setup) (value : Value) → Goes profile p played q → Has q value → value ≡ wanted → IsFirstTo profile Has p wanted played q
     first_here q value goes has same = record {
-      leads = record { goes_on = (move_goes profile p legal index played are within read).0; goes = goes; has = rw same at has };
+      leads = record { goes_on = goes_on; goes = goes; has = rw same at has };
       first = λ other r leads_too.
           let there = standing legal other (are.whole other leads_too.goes_on (r, leads_too.goes)) in
           elim (cases_lt index there.0) [

@@ -2,7 +2,8 @@
 ghost use Rattle.std.specs.Prelude.{◌≡◌, ◌⊎◌, [], ◌∷◌, ◌↔◌, ◌<◌, ◌≤◌, ◌||◌, ℕ, length, get_or, Contains, AllPairs, IsTrue, IfOk, IfErr, OnOk, Err};
 ghost use Rattle.dob_pieces.specs.Profiles.{IsAllowed};
 ghost use Rattle.dob_moves.specs.Moves.{place};
-ghost use Rattle.dob_moves.specs.Statuses.{AreMoves, CanCatch};
+ghost use Rattle.dob_moves.specs.MoveWalks.{IsWalk};
+ghost use Rattle.dob_moves.specs.Statuses.{CanCatch};
 ghost use Rattle.dob_rank.specs.Families.{IsPositionOf};
 ghost use Rattle.dob_rank.specs.Order.{IsPositionOfSet};
 ghost use Rattle.dob_distance.specs.declared.value.Value.TheVariants.{Win};
@@ -18,9 +19,9 @@ use crate::fault::Fault;
 use crate::gap::LookupFault;
 use crate::members::check_member;
 use crate::values::ValueSource;
-use dob_moves::{Move, first_catch, moves};
+use dob_moves::{Move, Outcome, PositionBoard, Walk, first_catch};
 use dob_pieces::{Family, Memory, Position};
-use dob_value::{Table, Value, outcome_of};
+use dob_value::{Table, Value, outcome_at};
 use std::alloc::Global;
 
 /// A move with the value that the side that makes it then has.
@@ -103,8 +104,9 @@ pub fn moves_by<S, V: ValueSource<S>>(
     if let Some(played) = first_catch(position) {
         return Ok(one_catch(alloc, played)?);
     }
-    let legal = moves(alloc, family.profile, position)?;
-    moves_in_order(alloc, by, source, family, position, &legal)
+    let mut walk = Walk::new();
+    let _status = walk.start(family.profile, &PositionBoard::of(position));
+    moves_in_order(alloc, by, source, family, position, &walk)
 }
 
 // The catch of the lion alone, which wins in 1 ply.
@@ -128,12 +130,12 @@ fn moves_in_order<S, V: ValueSource<S>>(
     source: &mut S,
     family: Family,
     position: &Position,
-    legal: &[Move],
+    walk: &Walk,
 ) -> Result<Vec<ValuedMove>, LookupFault<V::Fault>>
     requires stands { V.stands by.now }
     requires family { V.family_of by.now ≡ family }
     requires member { IsPositionOf family position.now.setup }
-    requires legal { AreMoves family.profile position.now.setup legal.now }
+    requires walk { IsWalk family.profile position.now.setup walk.now }
     requires free { ¬ CanCatch position.now.setup }
     ensures moves { (held : V.Held) → V.holds source.old held
         → IfOk result (λ list. AreSaidMoves family.profile (V.says by.now held) position.now.setup list.items) }
@@ -143,14 +145,14 @@ fn moves_in_order<S, V: ValueSource<S>>(
     ensures failed { V.has_failed source.new ≡ (V.has_failed source.old || fails (is_failing V.is_failure) result) }
 {
     let mut list = Vec::new(alloc);
-    for played in legal {
-        let next = outcome_of(family, position, *played);
-        let value = match by.value_at(source, &next) {
+    for place in 0..walk.len() {
+        let Outcome { played, position } = outcome_at(family, walk, place);
+        let value = match by.value_at(source, &position) {
             Ok(value) => value,
             Err(fault) => return Err(LookupFault::NoValue(fault)),
         };
         let valued = ValuedMove {
-            played: *played,
+            played,
             value: value_seen(value),
         };
         insert_by_value(&mut list, valued)?;

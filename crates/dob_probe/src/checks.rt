@@ -6,7 +6,7 @@ ghost use Rattle.dob_probe.specs.Faults.{IsFaultOfCheck, IsVerdict};
 
 use crate::fault::Fault;
 use crate::successors::value_that_follows;
-use dob_moves::MoveList;
+use dob_moves::Walk;
 use dob_value::Table;
 
 /// Passes the table exactly if each class's value follows from its status and its successors' values, so only if it
@@ -36,21 +36,22 @@ pub fn check_classes(table: &Table, first: u64, end: u64) -> Result<(), Fault>
     requires { end ≤ length table.now.values }
     ensures { IsVerdict table.now first end result }
 {
-    let mut room = MoveList::new();
+    let mut walk = Walk::new();
     for class in first..end {
-        if !class_follows(&mut room, table, class) {
+        if !class_follows(&mut walk, table, class) {
             return Err(Fault::Inconsistent(class));
         }
     }
     Ok(())
 }
 
-// Whether the value of the class follows. The room is for its moves: what it holds before and after plays no part.
-fn class_follows(room: &mut MoveList, table: &Table, class: u64) -> bool
+// Whether the value of the class follows. The walk is room for its moves: what it holds before and after plays no part.
+fn class_follows(walk: &mut Walk, table: &Table, class: u64) -> bool
     requires { class < length table.now.values }
     ensures follows { result ≡ true → ClassFollows table.now class }
     ensures breaks { result ≡ false → ClassBreaks table.now class }
 {
-    let position = table.classes().class_at(class);
-    value_that_follows(room, table, &position) == table.value(class)
+    // That the table has a class for each entry is known from here on.
+    let _classes = table.classes();
+    value_that_follows(walk, table, class) == table.value(class)
 }

@@ -1,7 +1,7 @@
 // The line of a position by a table, and by whatever says values.
 ghost use Rattle.std.specs.Prelude.{◌≡◌, ◌⊎◌, ◌||◌, ◌++◌, ◌∷◌, [], ℕ, IfOk, IfErr, MatchResult, OnOk, Err};
 ghost use Rattle.dob_pieces.specs.Profiles.{IsAllowed};
-ghost use Rattle.dob_moves.specs.Statuses.{AreMoves};
+ghost use Rattle.dob_moves.specs.Shown.{setup_on};
 ghost use Rattle.dob_rank.specs.Families.{IsPositionOf};
 ghost use Rattle.dob_rank.specs.Order.{IsPositionOfSet};
 ghost use Rattle.dob_distance.specs.Values.{HasValue};
@@ -16,9 +16,9 @@ use crate::gap::{LookupFault, fault_of};
 use crate::probes::probe;
 use crate::values::ValueSource;
 use dob_classes::Classes;
-use dob_moves::{Move, first_catch, moves};
+use dob_moves::{Move, Outcome, PositionBoard, Walk};
 use dob_pieces::{Memory, Position};
-use dob_value::{Table, Value, outcome_of};
+use dob_value::{Table, Value, class_of, outcome_at};
 use std::alloc::Global;
 
 /// The line of the position: where the lion can be caught, its first catch; else from a win the first move to a loss
@@ -78,7 +78,7 @@ pub fn line_by<S, V: ValueSource<S>>(
     by: &V,
     source: &mut S,
     classes: &Classes,
-    mut position: Position,
+    position: Position,
     mut value: Value,
 ) -> Result<Vec<Move>, LookupFault<V::Fault>>
     requires stands { V.stands by.now }
@@ -94,17 +94,18 @@ pub fn line_by<S, V: ValueSource<S>>(
     ensures failed { V.has_failed source.new ≡ (V.has_failed source.old || fails (is_failing V.is_failure) result) }
 {
     let mut line = Vec::new(alloc);
+    let mut here = PositionBoard::of(&position);
     loop {
-        if let Some(catch) = first_catch(&position) {
+        if let Some(catch) = here.first_catch() {
             push_move(&mut line, catch)?;
             return Ok(line);
         }
         let Some(wanted) = value_wanted(value) else {
             return Ok(line);
         };
-        let (played, next) = first_to(alloc, by, source, classes, &position, wanted)?;
-        push_move(&mut line, played)?;
-        position = next;
+        let next = first_to(by, source, classes, &here, wanted)?;
+        push_move(&mut line, next.played)?;
+        here = next.position;
         value = wanted;
     }
 }
@@ -130,66 +131,38 @@ fn value_wanted(value: Value) -> Option<Value>
 
 // The first move to a position with that value, and that position.
 //
-// Errors: `NoValue` if a position to which a move leads has no value; `Inconsistent` with the position's class where none leads to that value; `Memory`.
+// Errors: `NoValue` if a position to which a move leads has no value; `Inconsistent` with the position's class where none leads to that value.
 fn first_to<S, V: ValueSource<S>>(
-    alloc: Global,
     by: &V,
     source: &mut S,
     classes: &Classes,
-    position: &Position,
+    position: &PositionBoard,
     wanted: Value,
-) -> Result<(Move, Position), LookupFault<V::Fault>>
+) -> Result<Outcome, LookupFault<V::Fault>>
     requires stands { V.stands by.now }
     requires single { (held : V.Held) → AreSingle classes.now.family (V.says by.now held) }
     requires family { V.family_of by.now ≡ classes.now.family }
-    requires member { IsPositionOf classes.now.family position.now.setup }
+    requires member { IsPositionOf classes.now.family (setup_on position.now.board) }
     ensures found { (held : V.Held) → V.holds source.old held → IfOk result (λ found.
-        IsFirstTo classes.now.family.profile (V.says by.now held) position.now.setup wanted found.0 found.1.setup) }
-    ensures member { IfOk result (λ found. IsPositionOf classes.now.family found.1.setup) }
+        IsFirstTo classes.now.family.profile (V.says by.now held) (setup_on position.now.board) wanted found.played (setup_on found.position.board)) }
+    ensures member { IfOk result (λ found. IsPositionOf classes.now.family (setup_on found.position.board)) }
     ensures entry { OnOk result (IsEntry wanted) }
     ensures missing { (held : V.Held) → V.holds source.old held
-        → IfErr result (IsGapTo classes.now.family (V.says by.now held) (V.lacks by.now held) position.now.setup wanted) }
+        → IfErr result (IsGapTo classes.now.family (V.says by.now held) (V.lacks by.now held) (setup_on position.now.board) wanted) }
     ensures held { (held : V.Held) → V.holds source.old held → V.holds source.new held }
     ensures failed { V.has_failed source.new ≡ (V.has_failed source.old || fails (is_failing V.is_failure) result) }
 {
-    let legal = moves(alloc, classes.family.profile, position)?;
-    first_among(by, source, classes, position, &legal, wanted)
-}
-
-// The first of the moves to a position with that value, and that position.
-//
-// Errors: `NoValue` and `Inconsistent`, as of `first_to`.
-fn first_among<S, V: ValueSource<S>>(
-    by: &V,
-    source: &mut S,
-    classes: &Classes,
-    position: &Position,
-    legal: &[Move],
-    wanted: Value,
-) -> Result<(Move, Position), LookupFault<V::Fault>>
-    requires stands { V.stands by.now }
-    requires single { (held : V.Held) → AreSingle classes.now.family (V.says by.now held) }
-    requires family { V.family_of by.now ≡ classes.now.family }
-    requires member { IsPositionOf classes.now.family position.now.setup }
-    requires legal { AreMoves classes.now.family.profile position.now.setup legal.now }
-    ensures found { (held : V.Held) → V.holds source.old held → IfOk result (λ found.
-        IsFirstTo classes.now.family.profile (V.says by.now held) position.now.setup wanted found.0 found.1.setup) }
-    ensures member { IfOk result (λ found. IsPositionOf classes.now.family found.1.setup) }
-    ensures entry { OnOk result (IsEntry wanted) }
-    ensures missing { (held : V.Held) → V.holds source.old held
-        → IfErr result (IsGapTo classes.now.family (V.says by.now held) (V.lacks by.now held) position.now.setup wanted) }
-    ensures held { (held : V.Held) → V.holds source.old held → V.holds source.new held }
-    ensures failed { V.has_failed source.new ≡ (V.has_failed source.old || fails (is_failing V.is_failure) result) }
-{
-    for played in legal {
-        let next = outcome_of(classes.family, position, *played);
-        let value = match by.value_at(source, &next) {
+    let mut walk = Walk::new();
+    let _status = walk.start(classes.family.profile, position);
+    for place in 0..walk.len() {
+        let outcome = outcome_at(classes.family, &walk, place);
+        let value = match by.value_at(source, &outcome.position) {
             Ok(value) => value,
             Err(fault) => return Err(LookupFault::NoValue(fault)),
         };
         if value == wanted {
-            return Ok((*played, next));
+            return Ok(outcome);
         }
     }
-    Err(LookupFault::Inconsistent(classes.class_of(position)))
+    Err(LookupFault::Inconsistent(class_of(classes, position)))
 }

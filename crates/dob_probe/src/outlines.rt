@@ -16,7 +16,6 @@ pub(crate) struct Outline {
     pub(crate) enemy_lion: usize,
 }
 
-/// The position's outline.
 pub(crate) fn outline_of(position: &Position) -> Outline
     ensures { IsOutline position.now.setup result }
 {

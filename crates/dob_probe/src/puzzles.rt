@@ -3,19 +3,17 @@ ghost use Rattle.std.specs.Prelude.{◌≡◌, ◌<◌, ◌&&◌, length, IfOk, 
 ghost use Rattle.std.specs.List.{list_any};
 ghost use Rattle.dob_moves.specs.declared.game_move.Move.{Move as Moved};
 ghost use Rattle.dob_probe.specs.Outlines.{AreOutlines, IsOutlineOf, same_outline};
-ghost use Rattle.dob_moves.specs.Statuses.{AreMoves};
-ghost use Rattle.dob_rank.specs.Families.{IsPositionOf};
+ghost use Rattle.dob_rank.specs.Families.{class_setup};
 ghost use Rattle.dob_distance.specs.declared.value.Value.TheVariants.{Loss};
 ghost use Rattle.dob_probe.specs.Lines.{GivenBy};
 ghost use Rattle.dob_probe.specs.Puzzles.{ArePuzzles, IsListedNext, puzzle_of};
 ghost use Rattle.dob_probe.specs.SingleMoves.{IsPuzzleOf, IsSingleMove};
 
 use crate::outlines::{Outline, has_outline, outline_of};
-use crate::successors::value_to;
 use crate::walks::{ClassOrder, begin_at, class_on, order_of, places_in};
-use dob_moves::{Move, legal_moves};
-use dob_pieces::{Memory, Position};
-use dob_value::{Table, Value};
+use dob_moves::{Move, Outcome, Walk};
+use dob_pieces::Memory;
+use dob_value::{Table, Value, outcome_at, representative_of};
 use std::alloc::Global;
 
 /// A class that is won by one move alone: its number, and that move of its representative.
@@ -118,28 +116,30 @@ fn puzzle_of(table: &Table, plies: u16, class: u64) -> Option<Puzzle>
     if table.value(class) != Value::Win(plies) {
         return None;
     }
-    let position = table.classes().class_at(class);
-    let (_, legal) = legal_moves(table.family().profile, &position);
-    match single_move(table, &position, legal.as_slice(), Value::Loss(plies - 1)) {
+    match single_move(table, class, Value::Loss(plies - 1)) {
         Some(played) => Some(Puzzle { class, played }),
         None => None,
     }
 }
 
-// The only one of the position's moves that leads to a position of that value; `None` if there is no such move or
+// The only one of the moves of the class's representative that leads to a position of that value; `None` if there is no such move or
 // more than one.
-fn single_move(table: &Table, position: &Position, legal: &[Move], wanted: Value) -> Option<Move>
-    requires member { IsPositionOf table.now.family position.now.setup }
-    requires legal { AreMoves table.now.family.profile position.now.setup legal.now }
-    ensures { IsSingleMove table.now.family.profile (GivenBy table.now) position.now.setup wanted result }
+fn single_move(table: &Table, class: u64, wanted: Value) -> Option<Move>
+    requires { class < length table.now.values }
+    ensures { IsSingleMove table.now.family.profile (GivenBy table.now) (class_setup table.now.family class) wanted result }
 {
+    let family = table.family();
+    let position = representative_of(table.classes(), class);
+    let mut walk = Walk::new();
+    let _status = walk.start(family.profile, &position);
     let mut single = None;
-    for played in legal {
-        if value_to(table, position, *played) == wanted {
+    for place in 0..walk.len() {
+        let Outcome { played, position } = outcome_at(family, &walk, place);
+        if table.value_on(&position) == wanted {
             if single.is_some() {
                 return None;
             }
-            single = Some(*played);
+            single = Some(played);
         }
     }
     single

@@ -1,23 +1,18 @@
 // What decides the value of a class: its successors' values: only the least loss, the greatest win and whether
 // there is a draw are kept.
-ghost use Rattle.std.specs.Prelude.{◌≡◌, ◌++◌, List, [], ◌∷◌};
-ghost use Rattle.dob_pieces.specs.declared.setup.Setup.{Setup};
-ghost use Rattle.dob_pieces.specs.Setups.{turned};
-ghost use Rattle.dob_pieces.specs.Boards.{IsBoardOf};
-ghost use Rattle.dob_moves.specs.Moves.{Goes, CanGo};
-ghost use Rattle.dob_moves.specs.Statuses.{AreMoves, HasStatus};
-ghost use Rattle.dob_moves.specs.declared.position_status.Status.{Status};
-ghost use Rattle.dob_rank.specs.Families.{IsPositionOf};
+ghost use Rattle.std.specs.Prelude.{◌≡◌, ◌<◌, ◌++◌, List, [], ◌∷◌, length};
+ghost use Rattle.dob_moves.specs.MoveWalks.{IsWalk};
+ghost use Rattle.dob_moves.specs.Shown.{setup_on};
+ghost use Rattle.dob_rank.specs.Families.{IsPositionOf, class_setup};
 ghost use Rattle.dob_distance.specs.declared.value.Value.{Value as Valued};
 ghost use Rattle.dob_value.specs.Graphs.{AreSuccessors};
-ghost use Rattle.dob_value.specs.Follows.{Follows, IsTable};
+ghost use Rattle.dob_value.specs.Follows.{Follows};
 ghost use Rattle.dob_distance.specs.Distances.{lesser_of, greater_of};
 ghost use Rattle.dob_probe.specs.Lines.{GivenBy};
 ghost use Rattle.dob_probe.specs.Sums.{AreSummed, HasNext, value_after};
 
-use dob_moves::{Move, MoveList, Status, board_after, moves_into_by};
-use dob_pieces::{Board, Position};
-use dob_value::{Table, Value};
+use dob_moves::{PositionBoard, Status, Walk};
+use dob_value::{Table, Value, outcome_at, representative_of};
 
 /// What is kept of the successors' values.
 #[derive(Clone, Copy)]
@@ -94,54 +89,29 @@ fn greater(greatest: Option<u16>, plies: u16) -> u16
     }
 }
 
-/// The value that follows from the position's status and from those that the table gives its successors. The moves are
-/// listed in the room, whatever is in it.
-pub(crate) fn value_that_follows(room: &mut MoveList, table: &Table, position: &Position) -> Value
-    requires whole { IsTable table.now.family table.now.values }
-    requires member { IsPositionOf table.now.family position.now.setup }
-    ensures { Follows table.now.family.profile (GivenBy table.now) position.now.setup result }
+/// The value that follows from the status of the class's representative and from the values that the table gives its successors. The walk is room for its moves.
+pub(crate) fn value_that_follows(walk: &mut Walk, table: &Table, class: u64) -> Value
+    requires { class < length table.now.values }
+    ensures { Follows table.now.family.profile (GivenBy table.now) (class_setup table.now.family class) result }
 {
-    let board = Board::of(&position.setup);
-    match moves_into_by(table.family().profile, room, &board) {
+    let position = representative_of(table.classes(), class);
+    match walk.start(table.family().profile, &position) {
         Status::Caught => Value::Win(1),
         Status::Tried | Status::Stuck => Value::Loss(0),
-        Status::Open => successors_of(table, position, &board.turned(), room.as_slice()).value(),
+        Status::Open => successors_of(table, &position, walk).value(),
     }
 }
 
-// The values of the positions to which the moves lead, by the board that the enemy sees before them.
-fn successors_of(table: &Table, position: &Position, seen: &Board, legal: &[Move]) -> Successors
-    requires member { IsPositionOf table.now.family position.now.setup }
-    requires seen { IsBoardOf (turned position.now.setup) seen.now }
-    requires legal { AreMoves table.now.family.profile position.now.setup legal.now }
-    ensures { (values : List Valued) × AreSuccessors table.now.family.profile (λ v q. GivenBy table.now q v) position.now.setup values × AreSummed values result }
+// The values of the positions to which the moves of that walk lead.
+fn successors_of(table: &Table, position: &PositionBoard, walk: &Walk) -> Successors
+    requires member { IsPositionOf table.now.family (setup_on position.now.board) }
+    requires walk { IsWalk table.now.family.profile (setup_on position.now.board) walk.now }
+    ensures { (values : List Valued) × AreSuccessors table.now.family.profile (λ v q. GivenBy table.now q v) (setup_on position.now.board) values × AreSummed values result }
 {
     let mut kept = Successors::none();
-    for played in legal {
-        let value = successor_value(table, position, seen, *played);
-        kept = kept.with(value);
+    for place in 0..walk.len() {
+        let outcome = outcome_at(table.family(), walk, place);
+        kept = kept.with(table.value_on(&outcome.position));
     }
     kept
-}
-
-// The value of the position to which the move leads, by the board that the enemy sees before it.
-fn successor_value(table: &Table, position: &Position, seen: &Board, played: Move) -> Value
-    requires member { IsPositionOf table.now.family position.now.setup }
-    requires played { HasStatus table.now.family.profile position.now.setup Status.Open × CanGo table.now.family.profile position.now.setup played }
-    requires seen { IsBoardOf (turned position.now.setup) seen.now }
-    ensures { (q : Setup) → Goes table.now.family.profile position.now.setup played q → GivenBy table.now q result }
-{
-    let board = board_after(position, seen, played);
-    let class = table.classes().class_by(&board);
-    table.value(class)
-}
-
-// The value of the position to which the move leads.
-pub(crate) fn value_to(table: &Table, position: &Position, played: Move) -> Value
-    requires member { IsPositionOf table.now.family position.now.setup }
-    requires played { HasStatus table.now.family.profile position.now.setup Status.Open × CanGo table.now.family.profile position.now.setup played }
-    ensures { (q : Setup) → Goes table.now.family.profile position.now.setup played q → GivenBy table.now q result }
-{
-    let seen = Board::of(&position.setup).turned();
-    successor_value(table, position, &seen, played)
 }

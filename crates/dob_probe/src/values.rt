@@ -2,6 +2,7 @@
 ghost use Rattle.std.specs.Prelude.{◌≡◌, ◌||◌, Bool, false, IfErr, IfOk};
 ghost use Rattle.dob_pieces.specs.declared.profile.Family.{Family};
 ghost use Rattle.dob_pieces.specs.declared.setup.Setup.{Setup};
+ghost use Rattle.dob_moves.specs.Shown.{setup_on};
 ghost use Rattle.dob_rank.specs.Families.{IsPositionOf};
 ghost use Rattle.dob_distance.specs.declared.value.Value.{Value as Valued};
 ghost use Rattle.dob_distance.specs.Codes.{IsEntry};
@@ -10,7 +11,7 @@ ghost use Rattle.dob_probe.specs.Lines.{GivenBy};
 ghost use Rattle.dob_probe.specs.Said.{fails};
 
 use crate::fault::Fault;
-use dob_pieces::Position;
+use dob_moves::PositionBoard;
 use dob_value::{Table, Value};
 
 /// A source of the values of a family's positions, which reads what it is given: nothing, a file or bytes.
@@ -47,12 +48,12 @@ pub trait ValueSource<S> {
     /// # Errors
     ///
     /// Why it says none.
-    fn value_at(&self, source: &mut S, position: &Position) -> Result<Value, Self::Fault>
+    fn value_at(&self, source: &mut S, position: &PositionBoard) -> Result<Value, Self::Fault>
         requires stands { Self.stands self.now }
-        requires member { IsPositionOf (Self.family_of self.now) position.now.setup }
-        ensures said { (held : Self.Held) → Self.holds source.old held → IfOk result (Self.says self.now held position.now.setup) }
+        requires member { IsPositionOf (Self.family_of self.now) (setup_on position.now.board) }
+        ensures said { (held : Self.Held) → Self.holds source.old held → IfOk result (Self.says self.now held (setup_on position.now.board)) }
         ensures entry { IfOk result IsEntry }
-        ensures fault { (held : Self.Held) → Self.holds source.old held → IfErr result (Self.lacks self.now held position.now.setup) }
+        ensures fault { (held : Self.Held) → Self.holds source.old held → IfErr result (Self.lacks self.now held (setup_on position.now.board)) }
         ensures held { (held : Self.Held) → Self.holds source.old held → Self.holds source.new held }
         ensures failed { Self.has_failed source.new ≡ (Self.has_failed source.old || fails Self.is_failure result) };
 }
@@ -76,7 +77,7 @@ impl ValueSource<()> for Table {
 
     ghost is_failure = { λ _. false };
 
-    fn value_at(&self, _source: &mut (), position: &Position) -> Result<Value, Fault> {
-        Ok(self.value_of(position))
+    fn value_at(&self, _source: &mut (), position: &PositionBoard) -> Result<Value, Fault> {
+        Ok(self.value_on(position))
     }
 }

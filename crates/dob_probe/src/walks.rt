@@ -27,7 +27,6 @@ pub(crate) fn order_of(seed: Option<u64>, classes: u64) -> Option<Shuffle>
     }
 }
 
-/// How many places the order has.
 pub(crate) fn places_in(order: &Option<Shuffle>, classes: u64) -> u64
     ensures { result ≡ places_in order.now classes }
 {
@@ -65,7 +64,6 @@ pub(crate) fn begin_at(after: Option<u64>, order: &Option<Shuffle>, classes: u64
     }
 }
 
-// The place of the class.
 fn place_in(order: &Option<Shuffle>, classes: u64, class: u64) -> u64
     requires { class < places_in order.now classes }
     ensures place { result ≡ place_in order.now class }

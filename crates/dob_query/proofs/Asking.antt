@@ -1,9 +1,9 @@
 -- The faults of the records, of the header and of opening the file are those of asking it, and by the file of a value table the answer is right.
 use Rattle.dob_query.proofs.Common.{◌≡◌, List, inr, subst, sym, ℕ, IfOk, Result, Family, Profile, Setup, ClassTable, HasValue, Value, Stream, whole}
-use Rattle.dob_query.proofs.Common.{CountsClasses, Format, IsRefusal, IsRecorded, ShelfChange, Ending, GivesOver}
-use Rattle.dob_query.proofs.Common.{AreAnswerLines, AreRightAnswerLines, Asked, By, IsAnswerOf, IsAnswerTo, IsAskFault, IsAskingFault, IsFaultOfAsking, IsFaultTo, IsGapFor}
-use Rattle.dob_query.proofs.Common.{IsFileOf, IsOfNamed, IsOpeningFault, IsPositionOf, IsRecordsFault, IsTableAnswer, IsTableFault}
-use Rattle.dob_query.proofs.Common.{FailsWhere, IfErr, Err, Ok, String, false, is_io, IsToldBy, HasValueFile, IsTextOf, Fault, File, Memory, Table, Question, Moves, OfValue}
+use Rattle.dob_query.proofs.Common.{CountsClasses, Format, IsRefusal, IsRecorded, ShelfChange, Ending, GivesOver, AreAnswerLines, AreRightAnswerLines, Asked}
+use Rattle.dob_query.proofs.Common.{By, IsAnswerOf, IsAnswerTo, IsAskFault, IsAskingFault, IsFaultOfAsking, IsFaultTo, IsGapFor, IsFileOf, IsOfNamed}
+use Rattle.dob_query.proofs.Common.{IsOpeningFault, IsPositionOf, IsRecordsFault, IsTableAnswer, IsTableFault, FailsWhere, IfErr, Err, Ok, String, false, is_io}
+use Rattle.dob_query.proofs.Common.{IsToldBy, HasValueFile, IsTextOf, ProgramFault, File, Memory, Table, Question, Moves, OfValue}
 use Rattle.dob_pieces.specs.Profiles.{IsAllowed}
 use Rattle.dob_value.specs.Follows.{IsTable, IsValueTable}
 use Rattle.dob_dbfile.specs.Format.{IsFile}
@@ -13,12 +13,12 @@ use Rattle.dob_probe.specs.declared.fault.Fault as probing
 use Rattle.dob_probe.specs.declared.fault.Fault.TheVariants as table_fault
 use Rattle.dob_probe.proofs.Best.{lines_are_best}
 use Rattle.dob_probe.proofs.ByValue.{valued_rightly}
-use Rattle.dob_records.proofs.Tabled.{given_by_record, line_by, listed_by, record_of_given}
+use Rattle.dob_query.proofs.Tabled.{given_by_record, line_by, listed_by, record_of_given}
 use Rattle.dob_files.proofs.TableFaults.{over_weaker, right_table}
 use Rattle.dob_files.specs.Owed.{AnswersOwed}
 use Rattle.dob_query.specs.Questions.{question_owed}
 use Rattle.dob_words.specs.declared.command.orders.By.TheVariants as way
-use Rattle.dob_files.specs.declared.fault.Fault.TheVariants.{Text}
+use Rattle.dob_files.specs.declared.fault.ProgramFault.TheVariants.{Text}
 use Rattle.dob_text.specs.declared.fault.TextFault.{TextFault}
 use Rattle.dob_files.specs.Faults.{fault_of_table}
 use Rattle.dob_probe.specs.declared.gap.LookupFault.{LookupFault}
@@ -32,8 +32,8 @@ pub ok_each : {T E : Type 0} (Has : List ℕ → Type 0) (P : List ℕ → T →
 ok_each Has P result each = grind (arith, each)
 
 -- where what is right is right in another way, and each fault that holds too
-pub answered_weaker : {X : Type 0} (c : ShelfChange) (Is Other : X → Type 0) (Holds Also : Fault → Type 0) (result : Result X Fault)
-    → ((x : X) → Is x → Other x) → ((fault : Fault) → Holds fault → Also fault) → GivesOver c Is Holds result → GivesOver c Other Also result
+pub answered_weaker : {X : Type 0} (c : ShelfChange) (Is Other : X → Type 0) (Holds Also : ProgramFault → Type 0) (result : Result X ProgramFault)
+    → ((x : X) → Is x → Other x) → ((fault : ProgramFault) → Holds fault → Also fault) → GivesOver c Is Holds result → GivesOver c Other Also result
 answered_weaker c Is Other Holds Also result right fault is = grind (arith, right, fault)
 
 -- ---- faults of asking a source
@@ -46,7 +46,7 @@ refusal_asks question Gives p format family table_fault.OtherSet refused names =
 refusal_asks question Gives p format family fault refused names = absurd refused
 
 -- the records of a source that shows what it may give
-pub records_ask : (question : Question) (Gives Shows : Stream → Type 0) (p : Setup) (format : Format) (family : Family) (fault : Fault)
+pub records_ask : (question : Question) (Gives Shows : Stream → Type 0) (p : Setup) (format : Format) (family : Family) (fault : ProgramFault)
     → ((stream : Stream) → Gives stream → IsOfNamed stream p format family) → ((stream : Stream) → Gives stream → Shows stream)
     → IsRecordsFault question Shows format family p fault → IsFaultOfAsking question Gives p fault
 records_ask question Gives Shows p format family (File fault) named shows holds =
@@ -60,7 +60,8 @@ records_ask question Gives Shows p format family fault named shows holds = absur
 
 module _ (question : Question) (Has : List ℕ → Type 0) (p : Setup) where
   -- a fault of asking a source that gives the file
-  pub source_asks : (Gives : Stream → Type 0) (fault : Fault) → ((bytes : List ℕ) → Has bytes → Gives (whole bytes)) → IsFaultOfAsking question Gives p fault
+  pub source_asks : (Gives : Stream → Type 0) (fault : ProgramFault) → ((bytes : List ℕ) → Has bytes → Gives (whole bytes))
+      → IsFaultOfAsking question Gives p fault
       → IsAskingFault question Has p fault
   source_asks Gives (File fault) gives holds = λ stream known. holds stream (subst Gives (sym known.2) (gives known.0 known.1))
   source_asks Gives (Table table_fault.Memory) gives holds = absurd holds
@@ -74,29 +75,31 @@ no_text way.Table question Has p fault holds = holds
 no_text way.Records question Has p fault holds = holds
 
 -- a fault of asking for a position is one of asking for the text's
-pub asks_for_text : (asked : Asked) (Has : List ℕ → Type 0) (p : Setup) (words : List ℕ) (fault : Fault) → IsTextOf words p
+pub asks_for_text : (asked : Asked) (Has : List ℕ → Type 0) (p : Setup) (words : List ℕ) (fault : ProgramFault) → IsTextOf words p
     → IsFaultTo asked.by asked.question Has p fault → IsAskFault asked Has words fault
 asks_for_text asked Has p words (Text fault) named holds = absurd (no_text asked.by asked.question Has p fault holds)
 asks_for_text asked Has p words Memory named holds = tt
 asks_for_text asked Has p words fault named holds = (p, named, holds)
 
 -- a fault of opening the file is one of asking its table
-pub opening_asks : (question : Question) (Has : List ℕ → Type 0) (p : Setup) (fault : Fault) → IsOpeningFault Has fault → IsFaultTo way.Table question Has p fault
+pub opening_asks : (question : Question) (Has : List ℕ → Type 0) (p : Setup) (fault : ProgramFault) → IsOpeningFault Has fault
+    → IsFaultTo way.Table question Has p fault
 opening_asks question Has p (Table fault) holds = absurd holds
 opening_asks question Has p fault holds = holds
 
 -- so is one of asking the table
-pub table_asks : (question : Question) (Has : List ℕ → Type 0) (table : ClassTable) (p : Setup) (fault : Fault) → IsFileOf Has table
+pub table_asks : (question : Question) (Has : List ℕ → Type 0) (table : ClassTable) (p : Setup) (fault : ProgramFault) → IsFileOf Has table
     → IsTableFault question table p fault → IsFaultTo way.Table question Has p fault
 table_asks question Has table p (Table fault) file holds = (table, file, holds)
 table_asks question Has table p fault file holds = grind arith
 
 -- no device fails in that
-no_device : (question : Question) (table : ClassTable) (p : Setup) (c : ShelfChange) (fault : Fault) → FailsWhere c false → IsTableFault question table p fault
+no_device : (question : Question) (table : ClassTable) (p : Setup) (c : ShelfChange) (fault : ProgramFault) → FailsWhere c false
+    → IsTableFault question table p fault
     → FailsWhere c (is_io fault)
 no_device question table p c fault works holds = grind arith
 
-pub by_table : {X : Type 0} (c : ShelfChange) (question : Question) (file : List ℕ) (table : ClassTable) (p : Setup) (result : Result (String X) Fault)
+pub by_table : {X : Type 0} (c : ShelfChange) (question : Question) (file : List ℕ) (table : ClassTable) (p : Setup) (result : Result (String X) ProgramFault)
     → IsFileOf (c.before.has file) table → FailsWhere c false → IfOk result (λ lines. IsTableAnswer question table p (string_bytes lines))
     → IfErr result (IsTableFault question table p)
     → GivesOver c (λ lines. IsAnswerTo way.Table question (c.before.has file) p (string_bytes lines)) (IsFaultTo way.Table question (c.before.has file) p) result

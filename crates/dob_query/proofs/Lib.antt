@@ -5,3 +5,5 @@ pub mod Asking  -- the faults of a table, of records, of the header and of openi
 pub mod Placed  -- what lines come to by the records of a source is what is owed for asking for each
 pub mod EachRight  -- so is what they come to by a table, and by a value table's file what is told of them is right
 pub mod Shown  -- the faults of asking a file and of keeping a picture are those of showing, and by a value table's file a drawing is right
+pub mod Recorded  -- a position has one record
+pub mod Tabled  -- in the file of a table the records say what it gives

@@ -1,6 +1,7 @@
 -- The faults of asking a file and of keeping a picture are those of showing, and by the file of a value table a drawing is right.
-use Rattle.dob_query.proofs.Common.{AreRightShowLines, AreShowLines, Ending, Fault, Files, HasValueFile}
-use Rattle.dob_query.proofs.Common.{IsAskingFault, IsDrawingFault, IsShelfFault, IsShowFault, IsTextOf, List, Option, Profile, SameFiles, Setup, ShelfChange, drawn_line}
+use Rattle.dob_query.proofs.Common.{AreRightShowLines, AreShowLines, Ending, ProgramFault, Files, HasValueFile}
+use Rattle.dob_query.proofs.Common.{IsAskingFault, IsDrawingFault, IsShelfFault, IsShowFault, IsTextOf, List, Option, Profile, SameFiles, Setup, ShelfChange}
+use Rattle.dob_query.proofs.Common.{drawn_line}
 use Rattle.dob_query.proofs.Common.{ShelfState, Some, arith, inr, others_kept, refl, ℕ}
 use Rattle.std.specs.Prelude.{None}
 use Rattle.dob_files.specs.Owed.{AnswersOwed}
@@ -10,18 +11,19 @@ use Rattle.dob_files.proofs.TableFaults.{over_weaker}
 use Rattle.dob_query.proofs.Asking.{answer_right}
 
 -- a fault of asking the file
-pub asking_draws : (Has : Files) (file : List ℕ) (position : Setup) (fault : Fault) → IsAskingFault drawn_line (Has file) position fault
+pub asking_draws : (Has : Files) (file : List ℕ) (position : Setup) (fault : ProgramFault) → IsAskingFault drawn_line (Has file) position fault
     → IsDrawingFault Has (Some file) position fault
 asking_draws Has file position fault holds = grind arith
 
 module _ (c : ShelfChange) (file : Option (List ℕ)) (words : List ℕ) (position : Setup) (named : IsTextOf words position) where
   -- drawing the position fails, and then no picture is made
-  pub drawing_shows : (picture : Option (List ℕ)) (fault : Fault) → IsDrawingFault c.before.has file position fault → SameFiles c.before.has c.after.has
+  pub drawing_shows : (picture : Option (List ℕ)) (fault : ProgramFault) → IsDrawingFault c.before.has file position fault → SameFiles c.before.has c.after.has
       → IsShowFault c file picture words fault
   drawing_shows picture fault holds same = grind (arith, named, holds, same)
 
   -- the file of the picture isn't kept
-  pub picture_shows : (mid : ShelfState) (name : List ℕ) (fault : Fault) → SameFiles c.before.has mid.has → IsShelfFault fault → SameFiles mid.has c.after.has
+  pub picture_shows : (mid : ShelfState) (name : List ℕ) (fault : ProgramFault) → SameFiles c.before.has mid.has → IsShelfFault fault
+      → SameFiles mid.has c.after.has
       → IsShowFault c file (Some name) words fault
   picture_shows mid name fault same holds still =
       let kept = same_chain c.before.has mid.has c.after.has same still in
@@ -33,7 +35,6 @@ none_kept None Old New same = same
 none_kept (Some name) Old New same = others_kept name Old New same
 
 -- ---- by the file of a value table
-
 pub show_right : (file picture : Option (List ℕ)) (words : List ℕ) (c : ShelfChange) (e : Ending) → AnswersOwed (show_owed file picture words) c e
     → (show_owed file picture words).right c e
 show_right None picture words c e answers = tt

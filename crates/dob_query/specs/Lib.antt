@@ -3,3 +3,4 @@ pub mod Program
 pub mod QuestionsEach
 pub mod Shows
 pub mod Sizes
+pub mod Records

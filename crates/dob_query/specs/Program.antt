@@ -6,13 +6,13 @@ use Rattle.dob_pieces.specs.Setups.{IsLegal}
 use Rattle.dob_text.specs.PositionText.{Spells}
 use Rattle.dob_text.specs.Faults.{HasTextFault}
 use Rattle.dob_value.specs.Rosters.{SomeTooDeep, HasSamePieces}
-use Rattle.dob_files.specs.declared.fault.Fault.{Fault}
-use Rattle.dob_files.specs.declared.fault.Fault.TheVariants.{Text, TooDeep, Memory}
+use Rattle.dob_files.specs.declared.fault.ProgramFault.{ProgramFault}
+use Rattle.dob_files.specs.declared.fault.ProgramFault.TheVariants.{Text, TooDeep, Memory}
 use Rattle.dob_files.specs.Owed.{Owed, lines_owed}
 use Rattle.dob_query.specs.Questions.{AreRightAnswerLines, plain_value}
 
 -- The fault is given only where it is the text's first one, E26 behind all others, or memory failed.
-abbrev pub IsFaultOf : Profile → List ℕ → Fault → Type 0
+abbrev pub IsFaultOf : Profile → List ℕ → ProgramFault → Type 0
 IsFaultOf profile text (Text fault) = HasTextFault profile text fault
 IsFaultOf profile text TooDeep =
     (position : Setup) × IsLegal position × Spells text position × SomeTooDeep profile (HasSamePieces profile position)

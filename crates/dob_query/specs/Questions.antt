@@ -26,9 +26,9 @@ use Rattle.dob_probe.specs.Faults.{IsRefusal}
 use Rattle.dob_probe.specs.Lines.{GivenBy, IsLine}
 use Rattle.dob_probe.specs.Said.{IsGapOfLine, IsGapOfMoves, fails as says_failed, is_failing}
 use Rattle.dob_probe.specs.ValuedMoves.{AreValuedMoves}
-use Rattle.dob_records.specs.Records.{IsRecorded, LacksRecord}
-use Rattle.dob_files.specs.declared.fault.Fault.{Fault}
-use Rattle.dob_files.specs.declared.fault.Fault.TheVariants.{Text, File, Table, Memory, Io}
+use Rattle.dob_query.specs.Records.{IsRecorded, LacksRecord}
+use Rattle.dob_files.specs.declared.fault.ProgramFault.{ProgramFault}
+use Rattle.dob_files.specs.declared.fault.ProgramFault.TheVariants.{Text, File, Table, Memory, Io}
 use Rattle.dob_words.specs.declared.command.orders.Asked.{Asked}
 use Rattle.dob_words.specs.declared.command.orders.By.{By}
 use Rattle.dob_words.specs.declared.command.orders.By.TheVariants as way
@@ -125,7 +125,7 @@ pub record IsTableAnswer (question : Question) (table : ClassTable) (position : 
   pub told : IsToldBy question table.family.profile (GivenBy table) position lines
 
 -- a fault of asking a table: it refuses the position, or the line breaks off by it; or memory failed
-abbrev pub IsTableFault : Question → ClassTable → Setup → Fault → Type 0
+abbrev pub IsTableFault : Question → ClassTable → Setup → ProgramFault → Type 0
 IsTableFault question table p (Table (table_fault.Inconsistent class)) =
     IsPositionOf table.family p × IsGapFor question table.family (GivenBy table) (λ (q : Setup) (fault : probing.Fault). ⊥) p (gap.Inconsistent class)
 IsTableFault question table p (Table fault) = IsRefusal table.family p fault
@@ -151,7 +151,7 @@ abbrev pub IsRecordsGap : Question → Stream → Format → Family → Setup �
 IsRecordsGap question stream format family = IsGapFor question family (IsRecorded stream format family) (LacksRecord stream format family)
 
 -- a fault of answering by the records of a source that shows these streams, in that format and family
-abbrev pub IsRecordsFault : Question → (Stream → Type 0) → Format → Family → Setup → Fault → Type 0
+abbrev pub IsRecordsFault : Question → (Stream → Type 0) → Format → Family → Setup → ProgramFault → Type 0
 IsRecordsFault question Shows format family p (File fault) =
     (stream : Stream) → Shows stream → IsRecordsGap question stream format family p (gap.NoValue fault)
 IsRecordsFault question Shows format family p (Table (table_fault.Inconsistent class)) =
@@ -162,7 +162,7 @@ IsRecordsFault question Shows format family p _ = ⊥
 -- What a call gives that answers by the records of a source, in that format and family: the lines. What the source showed it still shows, and it has failed
 -- just where it had or the call's fault is a device's.
 pub record GivesTold {X : Type 0} (question : Question) (Showed Shows : Stream → Type 0) (had_failed has_failed : Bool) (format : Format) (family : Family)
-    (p : Setup) (result : Result (String X) Fault) : Type 0 where
+    (p : Setup) (result : Result (String X) ProgramFault) : Type 0 where
   pub ok : (stream : Stream) → Showed stream
       → IfOk result (λ lines. IsToldBy question family.profile (IsRecorded stream format family) p (string_bytes lines))
   pub shown : (stream : Stream) → Showed stream → Shows stream
@@ -175,7 +175,7 @@ IsRefusedBy stream position fault =
 
 -- A fault of asking a source that may give these streams: the header's, or that its family refuses the position, or of answering by the records; or memory
 -- failed.
-abbrev pub IsFaultOfAsking : Question → (Stream → Type 0) → Setup → Fault → Type 0
+abbrev pub IsFaultOfAsking : Question → (Stream → Type 0) → Setup → ProgramFault → Type 0
 IsFaultOfAsking question Gives p (File fault) = (stream : Stream) → Gives stream → (fault ≡ file_fault.Memory) ⊎ (HasFrontFault stream fault
     ⊎ ((format : Format) × (family : Family) × IsOfNamed stream p format family × IsRecordsGap question stream format family p (gap.NoValue fault)))
 IsFaultOfAsking question Gives p (Table (table_fault.Inconsistent class)) = (stream : Stream) → Gives stream
@@ -196,7 +196,7 @@ abbrev pub IsAnswerBy : Question → (List ℕ → Type 0) → Setup → List �
 IsAnswerBy question Has position lines = (bytes : List ℕ) → Has bytes → IsAnswerOf question (whole bytes) position lines
 
 -- a fault of asking them, or of opening the file
-abbrev pub IsAskingFault : Question → (List ℕ → Type 0) → Setup → Fault → Type 0
+abbrev pub IsAskingFault : Question → (List ℕ → Type 0) → Setup → ProgramFault → Type 0
 IsAskingFault question Has position Io = IsShut Has
 IsAskingFault question Has position fault = IsFaultOfAsking question (GivesWhole Has) position fault
 
@@ -206,7 +206,7 @@ IsAnswerTo way.Table question Has position lines = (table : ClassTable) × IsFil
 IsAnswerTo way.Records question Has position lines = IsAnswerBy question Has position lines
 
 -- a fault of asking it so
-abbrev pub IsFaultTo : By → Question → (List ℕ → Type 0) → Setup → Fault → Type 0
+abbrev pub IsFaultTo : By → Question → (List ℕ → Type 0) → Setup → ProgramFault → Type 0
 IsFaultTo way.Table question Has position (Table fault) = (table : ClassTable) × IsFileOf Has table × IsTableFault question table position (Table fault)
 IsFaultTo way.Table question Has position fault = IsOpeningFault Has fault
 IsFaultTo way.Records question Has position fault = IsAskingFault question Has position fault
@@ -225,7 +225,7 @@ pub record AreRightAnswerLines (question : Question) (profile : Profile) (words 
   pub told : IsToldBy question profile (HasValue profile) position lines
 
 -- A fault of asking that of the position of a text: the text's, or memory failed; the file is asked only where the text is a position's.
-abbrev pub IsAskFault : Asked → (List ℕ → Type 0) → List ℕ → Fault → Type 0
+abbrev pub IsAskFault : Asked → (List ℕ → Type 0) → List ℕ → ProgramFault → Type 0
 IsAskFault asked Has words (Text fault) = text.HasTextFault A words fault
 IsAskFault asked Has words Memory = Unit {0}
 IsAskFault asked Has words fault = (position : Setup) × IsTextOf words position × IsFaultTo asked.by asked.question Has position fault

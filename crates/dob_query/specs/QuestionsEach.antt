@@ -16,9 +16,9 @@ use Rattle.dob_value.specs.Follows.{ClassTable}
 use Rattle.dob_probe.specs.declared.fault.Fault.TheVariants as table_fault
 use Rattle.dob_probe.specs.declared.gap.LookupFault.TheVariants as gap
 use Rattle.dob_probe.specs.Faults.{IsRefusal}
-use Rattle.dob_records.specs.Records.{IsRecorded}
-use Rattle.dob_files.specs.declared.fault.Fault.{Fault}
-use Rattle.dob_files.specs.declared.fault.Fault.TheVariants.{Text, File, Table, Memory, Io}
+use Rattle.dob_query.specs.Records.{IsRecorded}
+use Rattle.dob_files.specs.declared.fault.ProgramFault.{ProgramFault}
+use Rattle.dob_files.specs.declared.fault.ProgramFault.TheVariants.{Text, File, Table, Memory, Io}
 use Rattle.dob_words.specs.declared.command.orders.Asked.{Asked}
 use Rattle.dob_words.specs.declared.command.orders.By.{By}
 use Rattle.dob_words.specs.declared.command.orders.By.TheVariants as way
@@ -39,10 +39,10 @@ use Rattle.dob_shelf.specs.Shelves.{ShelfChange}
 
 -- what stands behind an answer, and how a fault is told in its place
 abbrev pub End : Type 0
-End = List ℕ × (Fault → List ℕ)
+End = List ℕ × (ProgramFault → List ℕ)
 
 -- a fault as a JSON object, on a line
-abbrev pub fault_object : Fault → List ℕ
+abbrev pub fault_object : ProgramFault → List ℕ
 fault_object fault = codes "{\"fault\":\"" ++ (fault_text fault ++ (codes "\"}" ++ line_feed ∷ []))
 
 -- such an end, and a fault without `dobutsu: ` before it
@@ -59,39 +59,39 @@ end_of (ask.Moves moves_form.Object) = ([], fault_object)
 end_of _ = plain_end []
 
 -- what a call gave, as bytes
-abbrev pub bytes_of : {X : Type 0} → Result (String X) Fault → Result (List ℕ) Fault
+abbrev pub bytes_of : {X : Type 0} → Result (String X) ProgramFault → Result (List ℕ) ProgramFault
 bytes_of (Ok text) = Ok (string_bytes text)
 bytes_of (Err fault) = Err fault
 
 -- the lines of an answer with that end, or of a fault
-abbrev pub ended_lines : End → Result (List ℕ) Fault → List ℕ
+abbrev pub ended_lines : End → Result (List ℕ) ProgramFault → List ℕ
 ended_lines end (Ok lines) = lines ++ end.0
 ended_lines end (Err fault) = end.1 fault
 
 -- the text gives what the lines come to, and whether one was refused
-abbrev pub TellsAnswersOf : Question → (List ℕ → Result (List ℕ) Fault → Type 0) → List (List ℕ) → Bool → List ℕ → Type 0
-TellsAnswersOf question = TellsLinesOf (Result (List ℕ) Fault) (ended_lines (end_of question)) is_err
+abbrev pub TellsAnswersOf : Question → (List ℕ → Result (List ℕ) ProgramFault → Type 0) → List (List ℕ) → Bool → List ℕ → Type 0
+TellsAnswersOf question = TellsLinesOf (Result (List ℕ) ProgramFault) (ended_lines (end_of question)) is_err
 
 -- what is told of a line; by Is an answer is the line's
-abbrev pub IsToldOf : Question → (List ℕ → Result (List ℕ) Fault → Type 0) → List ℕ → Told → Type 0
+abbrev pub IsToldOf : Question → (List ℕ → Result (List ℕ) ProgramFault → Type 0) → List ℕ → Told → Type 0
 IsToldOf question Is = TellsOne (ended_lines (end_of question)) is_err Is
 
 -- what a call gives that is asked for one line: its answer, or that memory failed
-abbrev pub GivesLine : {X : Type 0} → (Result (List ℕ) Fault → Type 0) → Result (String X) Fault → Type 0
+abbrev pub GivesLine : {X : Type 0} → (Result (List ℕ) ProgramFault → Type 0) → Result (String X) ProgramFault → Type 0
 GivesLine Is (Err Memory) = Unit {0}
 GivesLine Is result = Is (bytes_of result)
 
 -- whether the fault ends all: that memory failed, or a device
-abbrev pub ends_all : Fault → Bool
+abbrev pub ends_all : ProgramFault → Bool
 ends_all Memory = true
 ends_all fault = is_io fault
 
-abbrev pub ends_all_in : {X : Type 0} → Result X Fault → Bool
+abbrev pub ends_all_in : {X : Type 0} → Result X ProgramFault → Bool
 ends_all_in (Ok x) = false
 ends_all_in (Err fault) = ends_all fault
 
 -- the answer ends nothing, and so it is told
-pub record IsKept {X : Type 0} (question : Question) (answer : Result (String X) Fault) (told : Told) : Type 0 where
+pub record IsKept {X : Type 0} (question : Question) (answer : Result (String X) ProgramFault) (told : Told) : Type 0 where
   pub goes_on : ends_all_in answer ≡ false
   pub text : told.text ≡ ended_lines (end_of question) (bytes_of answer)
   pub refused : told.is_refused ≡ is_err (bytes_of answer)
@@ -99,7 +99,7 @@ pub record IsKept {X : Type 0} (question : Question) (answer : Result (String X)
 -- ---- a line
 
 -- What a line comes to: an answer, which is the line's by IsTold; or its fault: its first as a text, or one of its position by Fails. What ends all is neither.
-abbrev pub IsLineAnswer : (List ℕ → List ℕ → Type 0) → (Setup → Fault → Type 0) → List ℕ → Result (List ℕ) Fault → Type 0
+abbrev pub IsLineAnswer : (List ℕ → List ℕ → Type 0) → (Setup → ProgramFault → Type 0) → List ℕ → Result (List ℕ) ProgramFault → Type 0
 IsLineAnswer IsTold Fails line (Ok lines) = IsTold line lines
 IsLineAnswer IsTold Fails line (Err (Text fault)) = HasTextFault A line fault
 IsLineAnswer IsTold Fails line (Err Memory) = ⊥
@@ -112,7 +112,7 @@ AnswersLine Is line lines = (position : Setup) × IsTextOf line position × Is p
 -- ---- by a table
 
 -- what a line comes to by the table; by IsTold an answer is a line's
-abbrev pub IsTableLine : (List ℕ → List ℕ → Type 0) → Question → ClassTable → List ℕ → Result (List ℕ) Fault → Type 0
+abbrev pub IsTableLine : (List ℕ → List ℕ → Type 0) → Question → ClassTable → List ℕ → Result (List ℕ) ProgramFault → Type 0
 IsTableLine IsTold question table = IsLineAnswer IsTold (IsTableFault question table)
 
 -- the text gives what the lines come to by the table of the file
@@ -129,13 +129,13 @@ abbrev pub IsStreamAnswer : Question → (Stream → Type 0) → Setup → List 
 IsStreamAnswer question Gives position lines = (stream : Stream) → Gives stream → IsAnswerOf question stream position lines
 
 -- why the family of the header refuses the position, or that a record which the question needs isn't whole, or that the line breaks off
-abbrev pub IsPlaceFault : Question → (Stream → Type 0) → Setup → Fault → Type 0
+abbrev pub IsPlaceFault : Question → (Stream → Type 0) → Setup → ProgramFault → Type 0
 IsPlaceFault question Gives position (File fault) = (stream : Stream) → Gives stream
     → (format : Format) × (family : Family) × IsOfNamed stream position format family × IsRecordsGap question stream format family position (gap.NoValue fault)
 IsPlaceFault question Gives position fault = IsFaultOfAsking question Gives position fault
 
 -- what a line comes to by it; by IsTold an answer is a line's
-abbrev pub IsPlaceAnswer : (List ℕ → List ℕ → Type 0) → Question → (Stream → Type 0) → List ℕ → Result (List ℕ) Fault → Type 0
+abbrev pub IsPlaceAnswer : (List ℕ → List ℕ → Type 0) → Question → (Stream → Type 0) → List ℕ → Result (List ℕ) ProgramFault → Type 0
 IsPlaceAnswer IsTold question Gives = IsLineAnswer IsTold (IsPlaceFault question Gives)
 
 -- ---- by a source whose header was read
@@ -146,7 +146,7 @@ IsRecordsAnswer question Shows format family position lines = IsPositionOf famil
     × ((stream : Stream) → Shows stream → IsToldBy question family.profile (IsRecorded stream format family) position lines)
 
 -- why the family refuses the position, or what its records leave open
-abbrev pub IsRecordFault : Question → (Stream → Type 0) → Format → Family → Setup → Fault → Type 0
+abbrev pub IsRecordFault : Question → (Stream → Type 0) → Format → Family → Setup → ProgramFault → Type 0
 IsRecordFault question Shows format family position (Table (table_fault.Inconsistent class)) =
     IsPositionOf family position × IsRecordsFault question Shows format family position (Table (table_fault.Inconsistent class))
 IsRecordFault question Shows format family position (Table fault) = IsRefusal family position fault
@@ -155,12 +155,12 @@ IsRecordFault question Shows format family position (File fault) =
 IsRecordFault question Shows format family position _ = ⊥
 
 -- what a line comes to by them
-abbrev pub IsRecordAnswer : Question → (Stream → Type 0) → Format → Family → List ℕ → Result (List ℕ) Fault → Type 0
+abbrev pub IsRecordAnswer : Question → (Stream → Type 0) → Format → Family → List ℕ → Result (List ℕ) ProgramFault → Type 0
 IsRecordAnswer question Shows format family =
     IsLineAnswer (AnswersLine (IsRecordsAnswer question Shows format family)) (IsRecordFault question Shows format family)
 
 -- memory failed, or the source did
-abbrev pub IsRecordEnd : (Stream → Type 0) → Fault → Type 0
+abbrev pub IsRecordEnd : (Stream → Type 0) → ProgramFault → Type 0
 IsRecordEnd Shows Memory = Unit {0}
 IsRecordEnd Shows (File (file_fault.Io bytes)) = (stream : Stream) → Shows stream → stream.fails ≡ true
 IsRecordEnd Shows _ = ⊥
@@ -173,7 +173,7 @@ pub record TellsRecords (question : Question) (Gives Shows : Stream → Type 0) 
   pub told : TellsAnswersOf question (IsRecordAnswer question Shows format family) lines is_refused text
 
 -- what ends all of that
-abbrev pub EndsRecords : (Stream → Type 0) → (Stream → Type 0) → Option (List ℕ) → Fault → Type 0
+abbrev pub EndsRecords : (Stream → Type 0) → (Stream → Type 0) → Option (List ℕ) → ProgramFault → Type 0
 EndsRecords Gives Shows known (File fault) = ((stream : Stream) → Gives stream → (fault ≡ file_fault.Memory) ⊎ HasFrontFault stream fault)
     ⊎ ((stream : Stream) → Shows stream → stream.fails ≡ true)
 EndsRecords Gives Shows known Memory = Unit {0}
@@ -196,7 +196,7 @@ AreRightEachLines profile way.Records question Has =
 
 -- A fault that ends all: one of the whole file, or of its header; or memory failed, or the file couldn't be opened. Or standard input failed, of which nothing
 -- was known.
-abbrev pub IsEachFault : By → ShelfChange → List ℕ → Fault → Type 0
+abbrev pub IsEachFault : By → ShelfChange → List ℕ → ProgramFault → Type 0
 IsEachFault way.Table c file (File fault) = HasFileFault (c.before.has file) fault
 IsEachFault way.Records c file (File fault) =
     (stream : Stream) → GivesWhole (c.before.has file) stream → (fault ≡ file_fault.Memory) ⊎ HasFrontFault stream fault

@@ -7,8 +7,8 @@ use Rattle.dob_text.specs.Pictures.{picture_of}
 use Rattle.dob_text.specs.Faults.{HasTextFault}
 use Rattle.dob_pieces.specs.declared.profile.Profile.{Profile}
 use Rattle.dob_distance.specs.Values.{HasValue}
-use Rattle.dob_files.specs.declared.fault.Fault.{Fault}
-use Rattle.dob_files.specs.declared.fault.Fault.TheVariants.{Text, Memory, Io}
+use Rattle.dob_files.specs.declared.fault.ProgramFault.{ProgramFault}
+use Rattle.dob_files.specs.declared.fault.ProgramFault.TheVariants.{Text, Memory, Io}
 use Rattle.dob_files.specs.Endings.{AnswersOver, Ending, GivesLines}
 use Rattle.dob_shelf.specs.Shelves.{Files, HasJust, SameFiles, SameOthers, ShelfChange}
 use Rattle.dob_files.specs.Keeping.{IsShelfFault}
@@ -52,18 +52,18 @@ pub record AreRightShowLines (c : ShelfChange) (profile : Profile) (picture : Op
 -- ---- faults
 
 -- a fault of asking the file that is named, if one is
-abbrev pub IsFaultBy : Files → Option (List ℕ) → Setup → Fault → Type 0
+abbrev pub IsFaultBy : Files → Option (List ℕ) → Setup → ProgramFault → Type 0
 IsFaultBy Has None position fault = ⊥
 IsFaultBy Has (Some file) position fault = IsAskingFault drawn_line (Has file) position fault
 
 -- a fault of drawing a position, by the file that is named if one is: the file's, or memory failed
-abbrev pub IsDrawingFault : Files → Option (List ℕ) → Setup → Fault → Type 0
+abbrev pub IsDrawingFault : Files → Option (List ℕ) → Setup → ProgramFault → Type 0
 IsDrawingFault Has file position Memory = Unit {0}
 IsDrawingFault Has file position fault = IsFaultBy Has file position fault
 
 -- The fault of showing: the text is no position's, or asking the file failed, or the file of the picture that is asked for, if one is, or memory was
 -- refused. Each file has what it had.
-abbrev pub IsShowFault : ShelfChange → Option (List ℕ) → Option (List ℕ) → List ℕ → Fault → Type 0
+abbrev pub IsShowFault : ShelfChange → Option (List ℕ) → Option (List ℕ) → List ℕ → ProgramFault → Type 0
 IsShowFault c file picture words (Text fault) = HasTextFault A words fault × SameFiles c.before.has c.after.has
 IsShowFault c file picture words Memory = SameFiles c.before.has c.after.has
 IsShowFault c file picture words Io = (position : Setup) × IsTextOf words position
@@ -74,7 +74,7 @@ IsShowFault c file picture words fault = (position : Setup) × IsTextOf words po
 -- ---- what the calls give
 
 -- the picture's file is kept and the lines are told, or that failed and each file has what it had
-abbrev pub KeepsPicture : {X : Type 0} → List ℕ → Setup → List ℕ → Result (String X) Fault → ShelfChange → Type 0
+abbrev pub KeepsPicture : {X : Type 0} → List ℕ → Setup → List ℕ → Result (String X) ProgramFault → ShelfChange → Type 0
 KeepsPicture name position lines result c =
     GivesLines c (λ told. (told ≡ lines) × (IsTrue c.before.tells → HasJust name (picture_of position) c.after.has))
     (λ fault. IsShelfFault fault × SameFiles c.before.has c.after.has) result

@@ -8,8 +8,8 @@ use Rattle.dob_rank.specs.Families.{HasClasses, HasSize, family_of}
 use Rattle.dob_query.specs.declared.counts.Counts.{Counts}
 use Rattle.dob_lines.specs.Tallies.{count_line}
 use Rattle.dob_files.specs.Owed.{Owed, lines_owed}
-use Rattle.dob_files.specs.declared.fault.Fault.{Fault}
-use Rattle.dob_files.specs.declared.fault.Fault.TheVariants.{SetText, Memory}
+use Rattle.dob_files.specs.declared.fault.ProgramFault.{ProgramFault}
+use Rattle.dob_files.specs.declared.fault.ProgramFault.TheVariants.{SetText, Memory}
 
 -- these are the family's numbers of positions and classes
 pub record HasCounts (family : Family) (counts : Counts) : Type 0 where
@@ -29,7 +29,7 @@ abbrev pub AreCountLinesOf : Profile → List ℕ → List ℕ → Type 0
 AreCountLinesOf profile text lines = (counts : Counts) × AreCountsOf profile text counts × (lines ≡ count_lines counts)
 
 -- the fault is given only where no set has the text, or memory failed for the lines
-abbrev pub IsCountFaultOf : List ℕ → Fault → Type 0
+abbrev pub IsCountFaultOf : List ℕ → ProgramFault → Type 0
 IsCountFaultOf text SetText = (set : PieceSet) → text ≢ set_text set
 IsCountFaultOf text Memory = Unit {0}
 IsCountFaultOf text _ = ⊥

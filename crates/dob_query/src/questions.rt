@@ -13,6 +13,7 @@ ghost use Rattle.dob_words.specs.declared.command.orders.By.TheVariants as way;
 ghost use Rattle.dob_query.specs.Questions.{GivesSaid, GivesTold, IsAnswerBy, IsAnswerOf, IsAnswerTo, IsAskingFault, IsFaultOfAsking, IsFaultTo};
 ghost use Rattle.dob_query.specs.Questions.{IsGapOfValue, IsRecordsFault, IsTableAnswer, IsTableFault, line_told, moves_told, question_owed, value_told};
 
+use crate::records::Records;
 use dob_classes::Classes;
 use dob_dbfile::{Format, PlacedSource, read_classes};
 use dob_files::{Answer, open, position_named};
@@ -20,10 +21,9 @@ use dob_lines::{
     best_move_line, line_object, line_of, move_lines, moves_lines, moves_object, played_drawing,
     value_object,
 };
-use dob_moves::Move;
+use dob_moves::{Move, PositionBoard};
 use dob_pieces::{Memory, Position};
 use dob_probe::{LookupFault, ValueSource, ValuedMove, check_member, line_by, moves_by};
-use dob_records::Records;
 use dob_shelf::Shelf;
 use dob_value::{Table, Value};
 use dob_words::command::{Asked, By, LineForm, MovesForm, Question, ValueForm};
@@ -173,7 +173,6 @@ fn told_by<S, V: ValueSource<S>>(
     }
 }
 
-// The value that is said of the position.
 fn said_value<S, V: ValueSource<S>>(
     by: &V,
     source: &mut S,
@@ -187,7 +186,7 @@ fn said_value<S, V: ValueSource<S>>(
     ensures held { (held : V.Held) → V.holds source.old held → V.holds source.new held }
     ensures failed { V.has_failed source.new ≡ (V.has_failed source.old || says_failed (is_failing V.is_failure) result) }
 {
-    match by.value_at(source, position) {
+    match by.value_at(source, &PositionBoard::of(position)) {
         Ok(value) => Ok(value),
         Err(fault) => Err(LookupFault::NoValue(fault)),
     }

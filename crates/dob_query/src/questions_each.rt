@@ -4,7 +4,7 @@ ghost use Rattle.dob_device.specs.Devices.{Stream};
 ghost use Rattle.dob_dbfile.specs.Faults.{fails};
 ghost use Rattle.dob_device.specs.Sinks.{change};
 ghost use Rattle.dob_files.specs.Faults.{is_io};
-ghost use Rattle.dob_files.specs.declared.fault.Fault.TheVariants.{Memory as OutOfMemory};
+ghost use Rattle.dob_files.specs.declared.fault.ProgramFault.TheVariants.{Memory as OutOfMemory};
 ghost use Rattle.dob_query.specs.QuestionsEach.{AnswersLine, AreEachLines, EndsRecords, GivesLine, IsEachFault, IsKept, IsRecordAnswer, IsRecordEnd, IsTableLine, IsToldOf, TellsRecords};
 ghost use Rattle.dob_query.specs.QuestionsEach.{bytes_of, end_of, ended_lines, ends_all, fault_object};
 ghost use Rattle.dob_query.specs.Questions.{IsTableAnswer};
@@ -15,7 +15,7 @@ ghost use Rattle.dob_words.specs.declared.command.orders.By.TheVariants as way;
 use crate::questions::{answer_by_records, answer_in_table};
 use dob_classes::Classes;
 use dob_dbfile::{Format, PlacedSource, Sink, read_classes};
-use dob_files::{Answer, Answerer, Fault, LineAnswers, open, position_in_line, tell_each};
+use dob_files::{Answer, Answerer, LineAnswers, ProgramFault, open, position_in_line, tell_each};
 use dob_pieces::Memory;
 use dob_probe::check_member;
 use dob_shelf::Shelf;
@@ -31,7 +31,7 @@ pub fn answer_question_each<S: Shelf, O: Sink>(
     out: &mut O,
     file: &str,
     asked: Asked,
-) -> Result<bool, Fault>
+) -> Result<bool, ProgramFault>
     ensures { Leaving SameFiles S.state shelf.old shelf.new (λ c. TellsOver c
         (AreEachLines asked.by asked.question (c.before.has file.now)) (IsEachFault asked.by c file.now) (change (O.state out.old) (O.state out.new)) result) }
 {
@@ -48,7 +48,7 @@ fn tell_by_table<S: Shelf, O: Sink>(
     out: &mut O,
     file: &str,
     question: Question,
-) -> Result<bool, Fault>
+) -> Result<bool, ProgramFault>
     ensures { Leaving SameFiles S.state shelf.old shelf.new (λ c. TellsOver c
         (AreEachLines way.Table question (c.before.has file.now)) (IsEachFault way.Table c file.now) (change (O.state out.old) (O.state out.new)) result) }
 {
@@ -70,7 +70,7 @@ impl Answerer for ByTable {
 
     ghost has_failed = { λ _. false };
 
-    fn answer(&mut self, alloc: Global, line: &[u8]) -> Result<LineAnswers, Fault> {
+    fn answer(&mut self, alloc: Global, line: &[u8]) -> Result<LineAnswers, ProgramFault> {
         let answer = line_in_table(alloc, &self.table, self.question, line);
         told_line(alloc, answer, self.question)
     }
@@ -91,7 +91,7 @@ fn tell_by_records<S: Shelf, O: Sink>(
     out: &mut O,
     file: &str,
     question: Question,
-) -> Result<bool, Fault>
+) -> Result<bool, ProgramFault>
     ensures { Leaving SameFiles S.state shelf.old shelf.new (λ c. TellsOver c
         (AreEachLines way.Records question (c.before.has file.now)) (IsEachFault way.Records c file.now) (change (O.state out.old) (O.state out.new)) result) }
 {
@@ -108,9 +108,9 @@ fn told_by<S: Shelf, O: Sink>(
     out: &mut O,
     mut source: S::Src,
     question: Question,
-) -> (S::Src, Result<bool, Fault>)
+) -> (S::Src, Result<bool, ProgramFault>)
     requires { S.Src.has_failed source ≡ false }
-    ensures told { TellsEach (S.state shelf.old).input (TellsRecords question (S.Src.gives source) (S.Src.shows source))
+    ensures told { TellsEach (S.state shelf.old).input (S.state shelf.new).input (TellsRecords question (S.Src.gives source) (S.Src.shows source))
         (λ fault. EndsRecords (S.Src.gives source) (S.Src.shows source) (S.state shelf.old).input fault
         × (((S.state shelf.new).has_failed || S.Src.has_failed result.0) ≡ ((S.state shelf.old).has_failed || is_io fault)))
         (((S.state shelf.new).has_failed || S.Src.has_failed result.0) ≡ ((S.state shelf.old).has_failed || false))
@@ -134,7 +134,7 @@ fn told_by<S: Shelf, O: Sink>(
             } = by;
             (source, told)
         }
-        Err(fault) => (source, Err(Fault::File(fault))),
+        Err(fault) => (source, Err(ProgramFault::File(fault))),
     }
 }
 
@@ -153,7 +153,7 @@ impl<R: PlacedSource> Answerer for ByRecords<R> {
 
     ghost has_failed = { λ by. R.has_failed by.source };
 
-    fn answer(&mut self, alloc: Global, line: &[u8]) -> Result<LineAnswers, Fault> {
+    fn answer(&mut self, alloc: Global, line: &[u8]) -> Result<LineAnswers, ProgramFault> {
         let answer = line_by_records(
             alloc,
             &mut self.source,
@@ -185,7 +185,7 @@ fn line_by_records<R: PlacedSource>(
 }
 
 // What is told of a line for that answer, but where it is a fault that ends all.
-fn told_line(alloc: Global, answer: Answer, question: Question) -> Result<LineAnswers, Fault>
+fn told_line(alloc: Global, answer: Answer, question: Question) -> Result<LineAnswers, ProgramFault>
     ensures told { IfOk result (λ told. IsKept question answer (told_of told)) }
     ensures ended { IfErr result (λ fault. (fault ≡ OutOfMemory) ⊎ ((answer ≡ Err fault) × (ends_all fault ≡ true))) }
     ensures failed { fails is_io result ≡ fails is_io answer }
@@ -200,12 +200,11 @@ fn told_line(alloc: Global, answer: Answer, question: Question) -> Result<LineAn
     }
 }
 
-// Whether the fault ends all.
-fn ends_all(fault: Fault) -> bool
+fn ends_all(fault: ProgramFault) -> bool
     ensures { result ≡ ends_all fault }
 {
     match fault {
-        Fault::Memory => true,
+        ProgramFault::Memory => true,
         fault => fault.is_io(),
     }
 }
@@ -233,8 +232,7 @@ fn ended_lines(alloc: Global, answer: Answer, question: Question) -> Result<Stri
     }
 }
 
-// The lines of the fault.
-fn fault_lines(alloc: Global, fault: Fault, question: Question) -> Result<String, Memory>
+fn fault_lines(alloc: Global, fault: ProgramFault, question: Question) -> Result<String, Memory>
     ensures { IfOk result (λ lines. string_bytes lines ≡ (end_of question).1 fault) }
 {
     match question {
@@ -248,8 +246,7 @@ fn fault_lines(alloc: Global, fault: Fault, question: Question) -> Result<String
     }
 }
 
-// The object of a fault.
-fn fault_object(alloc: Global, fault: Fault) -> Result<String, Memory>
+fn fault_object(alloc: Global, fault: ProgramFault) -> Result<String, Memory>
     ensures { IfOk result (λ line. string_bytes line ≡ fault_object fault) }
 {
     Ok(format!(in alloc; "{{\"fault\":\"{fault}\"}}\n")?)

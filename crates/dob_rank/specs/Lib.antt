@@ -8,4 +8,5 @@ pub mod BoardDigits
 pub mod Runs
 pub mod Placing
 pub mod Weights
+pub mod EvenWays
 pub mod Places

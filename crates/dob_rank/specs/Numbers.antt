@@ -16,7 +16,6 @@ use Rattle.dob_rank.specs.declared.layers.Layer.TheVariants.{OwnLion, EnemyLion,
 use Rattle.dob_rank.specs.Order.{form, IsPositionOfSet}
 
 -- ---- mixed radix numbers: a list of bases, and for each base a digit below it, the first of most weight
-
 abbrev pub product : List ℕ → ℕ
 product [] = 1
 product (base ∷ bases) = base * product bases
@@ -35,7 +34,6 @@ abbrev pub HasDigits : List ℕ → List ℕ → Type 0
 HasDigits bases digits = AllZip (λ (base digit : ℕ). digit < base) bases digits
 
 -- ---- the layers of a board, numbered in the order in which a key lists their squares: lists of layers have their numbers
-
 abbrev pub order : Layer → ℕ
 order OwnLion = 0
 order EnemyLion = 1

@@ -18,7 +18,6 @@ pub fn base_of(layer: Layer) -> u64
     }
 }
 
-/// The cell of that layer and form.
 pub(crate) fn cell_of(layer: Layer, form: u64) -> Option<Piece>
     ensures { result ≡ cell_of (order layer) form }
 {

@@ -19,6 +19,7 @@
 #![tactic(auto)]
 
 pub mod block;
+pub mod even_ways;
 pub mod far_places;
 pub mod far_rows;
 pub mod forms;

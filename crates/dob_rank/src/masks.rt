@@ -76,7 +76,6 @@ pub(crate) fn form_at(board: &Board, of_layer: Layer, square: u32) -> u64
     }
 }
 
-// The bit of a square.
 fn bit_of(set: SquareSet, square: u32) -> u64
     requires { square < 12 }
     ensures value { result ≡ bit_at set square }

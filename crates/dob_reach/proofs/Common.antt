@@ -21,7 +21,7 @@ pub use Rattle.dob_moves.specs.Statuses.{AreMoves, HasStatus}
 pub use Rattle.dob_moves.specs.declared.position_status.Status.TheVariants.{Open}
 pub use Rattle.dob_rank.specs.Families.{IsInClass, IsPositionOf, RepresentsClass, class_number, classes_of}
 pub use Rattle.dob_classes.proofs.OfFamilies.FamilyNumbers.{IsInClass-class_number, class_number-below}
-pub use Rattle.dob_value.proofs.Successors.{AreSuccessorsBelow, move_goes, moves_keep_the_family, successors_all, successors_more, successors_none}
+pub use Rattle.dob_value.proofs.Successors.{AreSuccessorsBelow, moves_keep_the_family, successors_all, successors_more, successors_none}
 pub use Rattle.dob_reach.specs.Counts.{Among, HasJust}
 pub use Rattle.dob_reach.specs.Distances.{IsAway, IsReached, Met}
 pub use Rattle.dob_reach.specs.Fronts.{AreExpanded, IsExpanded, IsPartAt, IsPlace, IsSifted, opens_of, outcomes_of, part_at, part_count, parts_before}

@@ -7,7 +7,6 @@ use Rattle.std.proofs.lemmas.List.Kept.{AllPairs-cons}
 use Rattle.dob_classes.proofs.OfFamilies.Counted.{pairs-head, pairs-tail, no_longer}
 
 -- ---- lists
-
 abbrev pub Apart : ℕ → ℕ → Type 0
 Apart a b = ¬ (a ≡ b)
 
@@ -108,7 +107,6 @@ just_one number = record {
 }
 
 -- ---- so many of a list
-
 pub among_few : (P : ℕ → Type 0) (numbers : List ℕ) (count : ℕ) → Among P numbers count → count ≤ length numbers
 among_few P [] count none = omega (arith, none)
 among_few P (x ∷ xs) count some = elim some [

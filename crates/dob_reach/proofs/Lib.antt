@@ -6,4 +6,5 @@ pub mod Stepping  -- what a class's moves lead to, and what is found of parts of
 pub mod Marking  -- numbers marked one after the other
 pub mod Searched  -- the search of a family's classes
 pub mod Valued  -- the classes that are reached by their values, one class more each time
+pub mod Coded  -- the same by the codes of the values
 pub mod Played  -- plays of moves and the classes that they come to

@@ -36,7 +36,6 @@ module _ (words : List ℕ) (number word : ℕ) (bits : number + 1 ≤ length wo
   ]
 
 -- ---- marks
-
 pub keeps_both : {a b c : List ℕ} → KeepsMarks a b → KeepsMarks b c → KeepsMarks a c
 keeps_both first second = record { long = second.long ∙ first.long; kept = λ number is. second.kept number (first.kept number is) }
 

@@ -24,7 +24,6 @@ pub class_low : (family : Family) (class other : ℕ) → Leads family class oth
 class_low family class other leads = number_low family leads.outcome other leads.inside
 
 -- ---- lists that leave out what is marked
-
 pub sifted_both : {words all more numbers others : List ℕ} → IsSifted words all numbers → IsSifted words more others → IsSifted words (all ++ more) (numbers
     ++ others)
 sifted_both {all = all} {more = more} {numbers = numbers} {others = others} a b = record {
@@ -82,7 +81,6 @@ expanded_class family words p class all numbers is_open represents successors si
 }
 
 -- ---- several classes
-
 pub expanded_none : (family : Family) (words : List ℕ) → AreExpanded family words [] [] 0
 expanded_none family words = record {
   sound = λ other there. absurd (none_in_empty other there);

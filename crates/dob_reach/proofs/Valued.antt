@@ -12,13 +12,13 @@ module _ (words : List ℕ) (values : List Value) where
   MarkedBelow class k = (k < class) × IsMarked words k
 
   module _ (Is : ℕ → Type 0) where
-    one_more : (class count : ℕ) → IsMarked words class → Is class → HasJust (λ k. MarkedBelow class k × Is k) count
+    pub one_more : (class count : ℕ) → IsMarked words class → Is class → HasJust (λ k. MarkedBelow class k × Is k) count
         → HasJust (λ k. MarkedBelow (class + 1) k × Is k) (count + 1)
     one_more class count marked is has = just_same (just_both has (just_one class) (λ k low same. absurd (omega (arith, low.0.0, same))))
         (λ k which. elim which [ inl low ↦ ((omega (arith, low.0.0), low.0.1), low.1) | inr same ↦ rw same ((omega arith, marked), is) ])
         (λ k low. elim (cases_lt k class) [ inl less ↦ inl ((less, low.0.1), low.1) | inr high ↦ inr (omega (arith, high, low.0.0)) ])
 
-    no_more : (class count : ℕ) → (IsMarked words class → Is class → ⊥) → HasJust (λ k. MarkedBelow class k × Is k) count
+    pub no_more : (class count : ℕ) → (IsMarked words class → Is class → ⊥) → HasJust (λ k. MarkedBelow class k × Is k) count
         → HasJust (λ k. MarkedBelow (class + 1) k × Is k) count
     no_more class count not_is has = just_same has (λ k low. ((omega (arith, low.0.0), low.0.1), low.1))
         (λ k low. elim (cases_lt k class) [
@@ -26,7 +26,7 @@ module _ (words : List ℕ) (values : List Value) where
           | inr high ↦ let same : k ≡ class = omega (arith, high, low.0.0) in absurd (not_is (rw same at low.0.1) (rw same at low.1))
         ])
 
-    none_yet : HasJust (λ k. MarkedBelow 0 k × Is k) 0
+    pub none_yet : HasJust (λ k. MarkedBelow 0 k × Is k) 0
     none_yet = just_none (λ k low. absurd (omega (arith, low.0.0)))
 
   pub counted_none : AreCounted (MarkedBelow 0) values (record { win = 0; loss = 0; draw = 0 })

@@ -8,4 +8,5 @@ pub mod Rounds  -- what is marked before a round, and what a round marks, of any
 pub mod Searches  -- what is known before each round of a search
 pub mod Reached  -- what a search from a class finds
 pub mod Values  -- how many of the classes that are reached have which value by a table
+pub mod Codes  -- how many of the classes that are reached have which value by a table, by the values' codes
 pub mod Plays  -- plays of moves, and the laws that src/laws.rt promises

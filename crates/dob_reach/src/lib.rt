@@ -9,6 +9,7 @@
 //   classes, since random look-ups would wait for memory.
 #![tactic(auto)]
 
+mod codes;
 pub mod laws;
 mod marks;
 mod parts;

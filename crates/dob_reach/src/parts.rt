@@ -1,16 +1,15 @@
 // What classes lead to: one by one, and in parts by as many threads as there are processors.
-ghost use Rattle.std.specs.Prelude.{◌≡◌, ◌<◌, ◌≤◌, ◌-◌, ◌+◌, ◌++◌, ◌∷◌, ◌↔◌, ℕ, List, [], IfOk, OnOk, true};
+ghost use Rattle.std.specs.Prelude.{◌≡◌, ◌<◌, ◌≤◌, ◌-◌, ◌+◌, ◌++◌, ◌∷◌, ℕ, List, [], IfOk, OnOk};
 ghost use Rattle.std.specs.List.{AllZip, range_with_len};
-ghost use Rattle.dob_moves.specs.declared.position_status.Status.{Status};
 ghost use Rattle.dob_rank.specs.Families.{classes_of};
 ghost use Rattle.dob_reach.specs.Fronts.{AreClasses, AreExpanded, IsExpanded, IsPartAt, IsPlace, IsSifted, part_count};
 ghost use Rattle.dob_reach.specs.Marks.{HasBits};
 
 use crate::marks::Marks;
 use dob_classes::Classes;
-use dob_moves::{MoveList, Status, moves_into};
+use dob_moves::Walk;
 use dob_pieces::Memory;
-use dob_value::class_after;
+use dob_value::{class_after, representative_of};
 use rayon::prelude::*;
 use std::alloc::Global;
 use std::thread::Threads;
@@ -93,25 +92,25 @@ fn part_of(
     requires bits { HasBits marks.now.words.items (classes_of classes.now.family) }
     ensures { IfOk result (λ found. AreExpanded classes.now.family marks.now.words.items part.now found.outcomes.items found.opens) }
 {
-    let mut room = MoveList::new();
+    let mut walk = Walk::new();
     let mut outcomes = Vec::new(alloc);
     let mut opens = 0;
     for class in part {
-        let is_open = push_outcomes(classes, marks, *class, &mut room, &mut outcomes)?;
+        let is_open = push_outcomes(classes, marks, *class, &mut walk, &mut outcomes)?;
         opens += u64::from(is_open);
     }
     Ok(FrontierPart { outcomes, opens })
 }
 
-// Appends the classes to which the class's moves lead, but those that are marked, and says whether it is open. The list of
-// moves is room for them.
+// Appends the classes to which the class's moves lead, but those that are marked, and says whether it is open. The walk is
+// room for its moves.
 //
 // Error: `Memory`.
 fn push_outcomes(
     classes: &Classes,
     marks: &Marks,
     class: u32,
-    room: &mut MoveList,
+    walk: &mut Walk,
     outcomes: &mut Vec<u32>,
 ) -> Result<bool, Memory>
     requires class { class < classes_of classes.now.family }
@@ -120,20 +119,13 @@ fn push_outcomes(
         × IsExpanded classes.now.family marks.now.words.items class more is_open) }
 {
     let _few = classes.class_count();
-    let position = classes.class_at(class as u64);
-    let status = moves_into(classes.family.profile, room, &position);
-    for played in room.iter() {
-        let outcome = class_after(classes, &position, *played);
+    let position = representative_of(classes, class as u64);
+    let status = walk.start(classes.family.profile, &position);
+    for place in 0..walk.len() {
+        let outcome = class_after(classes, walk, place);
         push_unmarked(marks, outcomes, outcome as u32)?;
     }
-    Ok(is_open(status))
-}
-
-// Whether it is that of an open position.
-fn is_open(status: Status) -> bool
-    ensures { (result ≡ true) ↔ (status ≡ Status.Open) }
-{
-    matches!(status, Status::Open)
+    Ok(status.is_open())
 }
 
 // Appends the number if it isn't marked.

@@ -24,18 +24,18 @@ pub use Rattle.dob_share.specs.declared.news.Settlement.{Settlement}
 pub use Rattle.dob_share.specs.declared.share.Share.{Share}
 pub use Rattle.dob_update.specs.Batches.{BatchView, items_of_batches}
 pub use Rattle.dob_share.specs.Items.{item_for, items_from, items_of}
-pub use Rattle.dob_stops.specs.declared.cause.Cause.{Cause}
-pub use Rattle.dob_stops.specs.declared.fault.Fault.{Fault}
-pub use Rattle.dob_stops.specs.declared.fault.Fault.TheVariants.{Memory, Stopped}
-pub use Rattle.dob_lawful.proofs.Rest.{below_owner}
+pub use Rattle.dob_share.specs.declared.cause.Cause.{Cause}
+pub use Rattle.dob_share.specs.declared.build_fault.BuildFault.{BuildFault}
+pub use Rattle.dob_share.specs.declared.build_fault.BuildFault.TheVariants.{Memory, Stopped}
+pub use Rattle.dob_history.proofs.Rest.{below_owner}
 pub use Rattle.dob_history.proofs.TakenLists.{carried}
-pub use Rattle.dob_lawful.specs.Histories.{last_now, value_of}
+pub use Rattle.dob_history.specs.Histories.{last_now, value_of}
 pub use Rattle.dob_node.specs.Nodes.{IsIdle}
 pub use Rattle.dob_node.specs.declared.node.Node.{Node}
 pub use Rattle.dob_board.proofs.Halting.{same_halt}
 pub use Rattle.dob_board.specs.Seats.{AreWords}
 pub use Rattle.dob_board.specs.Words.{halt_word, posted_word}
-pub use Rattle.dob_board.specs.declared.board.Board.{Board}
+pub use Rattle.dob_board.specs.declared.board.Blackboard.{Blackboard}
 pub use Rattle.dob_board.specs.declared.board.Closed.{Closed}
 pub use Rattle.dob_board.specs.declared.halt.Halt.{Halt}
 pub use Rattle.dob_board.specs.declared.halt.Halt.TheVariants.{Ended, Failed, Running}

@@ -2,27 +2,27 @@
 use Rattle.dob_run.proofs.Common.{◌*◌, ◌++◌, ◌+◌, ◌-◌, ◌<◌, ◌∙◌, ◌∷◌, ◌≡◌, ◌≢◌, ◌≤◌, Global, List, None, Option, Some, [], ap, arith, false, get_or, inl, inr}
 use Rattle.dob_run.proofs.Common.{length, length-append, map, refl, subst, sym, take, ℕ, cases_eq, cases_lt, append-nil, length-map, take_all, slice_get-get_or}
 use Rattle.dob_run.proofs.Common.{MatchOption, slice_get, slice_index, Vec, some_at, Family, classes_of, IsValueTable, Value, owner_of, HasValueNow, IsValue}
-use Rattle.dob_run.proofs.Common.{cell_at, Item, Settlement, Share, BatchView, items_of_batches, items_from, Cause, Fault, Stopped, below_owner, value_of}
-use Rattle.dob_run.proofs.Common.{IsIdle, Node, same_halt, AreWords, halt_word, posted_word, Board, Closed, Halt, Ended, Failed, Running, IsRejoined, sent_by}
+use Rattle.dob_run.proofs.Common.{cell_at, Item, Settlement, Share, BatchView, items_of_batches, items_from, Cause, BuildFault, Stopped, below_owner, value_of}
+use Rattle.dob_run.proofs.Common.{IsIdle, Node, same_halt, AreWords, halt_word, posted_word, Blackboard, Closed, Halt, Ended, Failed, Running, IsRejoined, sent_by}
 use Rattle.dob_run.proofs.Common.{taken_by, taken_of, IsLawfulInbox, Rejoined, applied_else, applied_here, sums_by, parts, AreOut, CanHaveMade, KnowsRight}
 use Rattle.dob_run.proofs.Common.{IsLawfulRunner, SendsRight, applied_from, items_worked, own_applied, planned, offered, worked_from, held_from, in_slot}
 use Rattle.dob_run.proofs.Common.{Endpoint, Runner, Inlet, Outlet, AreUnfailed, IsFirstFailed, AllKnow, AreFailureless, AreOwners, AreShownBelow, HaveStopped}
 use Rattle.dob_run.proofs.Common.{IsFailure, IsFailureOf, IsOwner, share_in, IsBuilt, IsLinkDone, needed, AreClosed, IsCrew, seat_in, endpoint_of, node_of}
 use Rattle.dob_run.proofs.Common.{AreFinished, AreShown, IsLawfulAt, Built, predecessors}
-use Rattle.dob_lawful.proofs.Kept.{last_now-entry}
+use Rattle.dob_history.proofs.Kept.{last_now-entry}
 use Rattle.dob_endpoint.proofs.Places.{map_got, get_map}
 use Rattle.dob_moves.specs.declared.position_status.Status.{Status}
 use Rattle.dob_moves.specs.declared.position_status.Status.TheVariants.{Open}
 use Rattle.dob_share.specs.declared.opening.Opening.{Opening}
 use Rattle.dob_share.specs.Cells.{Cell}
-use Rattle.dob_lawful.specs.Quiet.{FollowsAtStatus}
-use Rattle.dob_lawful.specs.Lawful.{known_of, AreLawfulNodes as AreLawful}
-use Rattle.dob_lawful.specs.Openings.{AreOpenings}
-use Rattle.dob_lawful.proofs.Ends.{lawful_is_right}
+use Rattle.dob_history.specs.Quiet.{FollowsAtStatus}
+use Rattle.dob_history.specs.Lawful.{known_of, AreLawfulNodes as AreLawful}
+use Rattle.dob_history.specs.Openings.{AreOpenings}
+use Rattle.dob_history.proofs.Ends.{lawful_is_right}
 use Rattle.dob_crew.proofs.CrewRunners.{are_linked, seat_there, rejoined_at, seat_at, crew_many, crew_low, outlet_at}
 use Rattle.dob_crew.specs.declared.crew_close.ClosedCrew.{ClosedCrew as Left}
 use Rattle.dob_run.proofs.Needed.{needed_fits}
-use Rattle.dob_lawful.proofs.Found.{some_openings}
+use Rattle.dob_history.proofs.Found.{some_openings}
 
 -- what is answered where none is known
 abbrev pub IsNone : List Runner → Type 0
@@ -56,13 +56,13 @@ module _ (runners : List Runner) (halt : Halt) (first : Runner) (at : slice_get 
 
 -- so it is where no failure of the node that failed the run is found
 pub or_failed : (runners : List Runner) (halt : Halt) (first : Runner) → slice_get runners 0 ≡ Some first → first.endpoint.seat.stand.halt ≡ halt → (node : ℕ) →
-    halt ≡ Failed node → (result : Option Fault) → MatchOption result ((why : Cause) → IsFailure runners node why → ⊥) (IsFailureOf runners) →
+    halt ≡ Failed node → (result : Option BuildFault) → MatchOption result ((why : Cause) → IsFailure runners node why → ⊥) (IsFailureOf runners) →
     MatchOption result (IsNone runners) (IsFailureOf runners)
 or_failed runners halt first at halt_is node fails None none = none_failed runners halt first at halt_is node fails none
 or_failed runners halt first at halt_is node fails (Some fault) failure = failure
 
 -- a runner that failed although the end was announced
-pub late_failure : (runners : List Runner) (fault : Fault) → AllKnow Ended runners → IsFirstFailed runners fault → IsFailureOf runners fault
+pub late_failure : (runners : List Runner) (fault : BuildFault) → AllKnow Ended runners → IsFirstFailed runners fault → IsFailureOf runners fault
 late_failure runners (Stopped node why) know first = record {
   runner = first.0;
   at = first.1;
@@ -78,7 +78,6 @@ pub owner_is : (family : Family) (size n k : ℕ) (node : Node) (endpoint : Endp
 owner_is family size n k node endpoint law id_is n_is = grind (arith, last_now-entry)
 
 -- ---- a crew that has come to its end holds the value table
-
 closed_follows : (status : Status) (cell : Cell) (v : Value) → status ≢ Open → IsValue status cell v → FollowsAtStatus status [] v
 closed_follows Open cell v closed is = absurd (closed refl)
 closed_follows _ cell v closed is = is
@@ -131,7 +130,6 @@ module _ (family : Family) (n : ℕ) (some : 0 < n) (histories : ℕ → List Se
   known_is_right openings values are whole each = lawful_is_right family n histories applied cell value openings values some are are_lawful all whole each
 
 -- ---- links
-
 pub nothing_of : (xs : List BatchView) → length xs ≡ 0 → xs ≡ []
 nothing_of [] none = refl
 nothing_of (x ∷ xs) none = absurd (omega (arith, none))
@@ -252,7 +250,7 @@ module _ (family : Family) (n : ℕ) (some : 0 < n) (runners : List Runner) (are
 
 -- ---- a crew that has stopped: what its board's words say of its runners, and that its end leaves what it should
 
-module _ {board : Board} {family : Family} {size : ℕ} (runners : List Runner) {words : List ℕ} (crew : IsCrew board (map endpoint_of runners))
+module _ {board : Blackboard} {family : Family} {size : ℕ} (runners : List Runner) {words : List ℕ} (crew : IsCrew board (map endpoint_of runners))
     (stopped : HaveStopped family size runners) (are : AreWords board.nodes (map seat_in (map endpoint_of runners)) words) where
   there : (k : ℕ) → k < board.nodes → (runner : Runner) × (slice_get runners k ≡ Some runner)
   there k within = some_at runners k (omega (arith, within, crew_many board runners crew))

@@ -10,7 +10,6 @@ use Rattle.std.proofs.lemmas.List.Sums.{sum_by-cons, sum_by-le, sum_by-le-sum_by
 use Rattle.dob_distance.specs.Entries.{is_draw}
 
 -- ---- sums over numbers that follow one another
-
 sum_both : (f g : ℕ → ℕ) (a n : ℕ) →
     sum_by (λ k. f k + g k) (range_with_len a n) ≡ sum_by f (range_with_len a n) + sum_by g (range_with_len a n)
 sum_both f g a zero = refl
@@ -75,7 +74,6 @@ unlisted_still [] class before none = refl
 unlisted_still (s ∷ history) class before none = grind (arith, (unlisted_still history class before))
 
 -- ---- the items that a history makes
-
 length-items_of : (targets : ℕ → List ℕ) (n to : ℕ) (s : Settlement) →
     length (items_of targets n to s) ≡ count_by (λ from. eqb (owner_of n from) to) (targets s.class)
 length-items_of targets n to s =

@@ -3,11 +3,11 @@ use Rattle.std.specs.Prelude.{◌≡◌, ◌≢◌, ℕ, ◌<◌, ◌⊎◌, Lis
 use Rattle.dob_pieces.specs.declared.profile.Family.{Family}
 use Rattle.dob_board.specs.declared.halt.Halt.{Halt}
 use Rattle.dob_board.specs.declared.halt.Halt.TheVariants.{Running, Ended, Failed}
-use Rattle.dob_stops.specs.declared.cause.Cause.{Cause}
+use Rattle.dob_share.specs.declared.cause.Cause.{Cause}
 use Rattle.dob_node.specs.declared.node.Node.{Node}
 use Rattle.dob_share.specs.declared.share.Share.{Share}
-use Rattle.dob_stops.specs.declared.fault.Fault.{Fault}
-use Rattle.dob_stops.specs.declared.fault.Fault.TheVariants.{Nodes, Sizes, Stopped, Memory}
+use Rattle.dob_share.specs.declared.build_fault.BuildFault.{BuildFault}
+use Rattle.dob_share.specs.declared.build_fault.BuildFault.TheVariants.{Nodes, Sizes, Stopped, Memory}
 use Rattle.dob_runner.specs.declared.runner.Runner.{Runner}
 
 -- The runner works for that family with batches of at most that size, and its seat knows that the run ended or failed.
@@ -45,7 +45,7 @@ abbrev pub AreFailureless : List Runner → Type 0
 AreFailureless runners = (node : ℕ) (why : Cause) → ¬ IsFailure runners node why
 
 -- why a crew that has stopped leaves no table: a node's failure; or where there is none, memory is refused
-abbrev pub IsFailureOf : List Runner → Fault → Type 0
+abbrev pub IsFailureOf : List Runner → BuildFault → Type 0
 IsFailureOf runners (Stopped node why) = IsFailure runners node why
 IsFailureOf runners Memory = AreFailureless runners
 IsFailureOf runners Nodes = ⊥

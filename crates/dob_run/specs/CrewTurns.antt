@@ -2,7 +2,7 @@
 use Rattle.std.specs.Prelude.{◌≡◌, ⊤, ℕ, Bool, true, List, None, Some, slice_get}
 use Rattle.std.specs.List.{AllZip}
 use Rattle.dob_pieces.specs.declared.profile.Family.{Family}
-use Rattle.dob_board.specs.declared.board.Board.{Board}
+use Rattle.dob_board.specs.declared.board.Blackboard.{Blackboard}
 use Rattle.dob_runner.specs.declared.runner.Runner.{Runner}
 use Rattle.dob_runner.specs.declared.turn_loop.Until.{Until}
 use Rattle.dob_runner.specs.declared.turn_loop.Until.TheVariants.{Turns, Halted}
@@ -17,7 +17,7 @@ AreLetOn Says Halted ended = (k : ℕ) (runner : Runner) → slice_get ended k �
 
 -- The runners of a new crew of the family, of sizes within their limits, were to make turns for so long, and have, with a
 -- gate that may say no to some nodes.
-pub record HasRun (No : ℕ → Type 0) (until : Until) (family : Family) (n size capacity : ℕ) (board : Board) (ended : List Runner) : Type 0 where
+pub record HasRun (No : ℕ → Type 0) (until : Until) (family : Family) (n size capacity : ℕ) (board : Blackboard) (ended : List Runner) : Type 0 where
   pub within : AreWithin n size capacity
   pub old : List Runner
   pub opened : IsNewCrew family n size capacity board old

@@ -8,7 +8,7 @@ use Rattle.dob_share.specs.declared.opening.Opening.{Opening}
 use Rattle.dob_share.specs.Owners.{owner_of}
 use Rattle.dob_share.specs.Shares.{HasValueNow}
 use Rattle.dob_update.specs.Batches.{BatchView}
-use Rattle.dob_lawful.specs.Openings.{AreOpenings}
+use Rattle.dob_history.specs.Openings.{AreOpenings}
 use Rattle.dob_chan.specs.Ends.{sent_by, taken_of}
 use Rattle.dob_endpoint.specs.declared.slots.Outlet.{Outlet}
 use Rattle.dob_endpoint.specs.declared.slots.Inlet.{Inlet}

@@ -10,7 +10,7 @@ use crate::crew_turns::{EndedCrew, run_crew};
 use dob_crew::CrewSizes;
 use dob_pieces::Family;
 use dob_runner::{Gate, Until};
-use dob_stops::Fault;
+use dob_share::BuildFault;
 use std::alloc::Global;
 use std::sync::Wait;
 use std::thread::Threads;
@@ -31,7 +31,7 @@ pub fn run_nodes<R: Threads + Wait + Sync, G: Gate + Sync>(
     batch_size: usize,
     capacity: usize,
     gate: &G,
-) -> Result<Built, Fault>
+) -> Result<Built, BuildFault>
     ensures builds { Builds (G.says gate.now) family nodes batch_size capacity result }
     ensures within { OnOk result (AreWithin nodes batch_size capacity) }
 {
@@ -51,7 +51,7 @@ pub fn build_by<R: Threads + Wait + Sync, G: Gate + Sync>(
     family: Family,
     sizes: &CrewSizes,
     gate: &G,
-) -> Result<Built, Fault>
+) -> Result<Built, BuildFault>
     ensures { (nodes batch_size capacity : ℕ) → AreThese nodes batch_size capacity sizes.now → Builds (G.says gate.now) family nodes batch_size capacity result }
 {
     let EndedCrew {

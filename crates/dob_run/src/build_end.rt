@@ -1,6 +1,6 @@
 // What a build by threads leaves, when its crew has come to its end.
 ghost use Rattle.std.specs.Prelude.{◌≡◌, ◌<◌, ◌↔◌, ℕ, IsTrue, IfOk, IfErr, OnOk, MatchOption, Some, length, map, slice_get};
-ghost use Rattle.dob_stops.specs.declared.cause.Cause.{Cause};
+ghost use Rattle.dob_share.specs.declared.cause.Cause.{Cause};
 ghost use Rattle.dob_runner.specs.declared.runner.Runner.{Runner};
 ghost use Rattle.dob_crew.specs.CrewRunners.{endpoint_of, node_of};
 ghost use Rattle.dob_board.specs.Seats.{AreWords};
@@ -10,15 +10,14 @@ ghost use Rattle.dob_run.specs.CrewStops.{AreUnfailed, IsFirstFailed};
 ghost use Rattle.dob_run.specs.BuildEnd.{HaveStopped, AllKnow, IsFailure, IsFailureOf, AreFailureless, share_in};
 
 use crate::built_table::Built;
-use dob_board::{Board, Halt};
+use dob_board::{Blackboard, Halt};
 use dob_classes::Classes;
 use dob_crew::{ClosedCrew, close_runners};
 use dob_gather::{Gathered, gather};
 use dob_node::{Cause, Node};
 use dob_pieces::Memory;
 use dob_runner::Runner;
-use dob_share::Share;
-use dob_stops::Fault;
+use dob_share::{BuildFault, Share};
 use std::alloc::{AllocError, Global};
 use std::sync::Wait;
 use std::thread::Threads;
@@ -35,9 +34,9 @@ pub fn finish<R: Threads + Wait + Sync>(
     rt: &R,
     alloc: Global,
     classes: Classes,
-    board: Board,
+    board: Blackboard,
     runners: Vec<Runner>,
-) -> Result<Built, Fault>
+) -> Result<Built, BuildFault>
     requires crew { IsCrew board (map endpoint_of runners.items) }
     requires stopped { (size : ℕ) × HaveStopped classes.family size runners.items }
     ensures built { IfOk result (λ built. (size : ℕ) → HaveStopped classes.family size runners.items →
@@ -62,7 +61,7 @@ pub fn finish<R: Threads + Wait + Sync>(
 
 // The failure that each of these runners knows of: the node that failed the run, or the least one that failed although its end was announced. It takes no
 // memory, so that a failure is named where none is left.
-fn failure_known(runners: &[Runner]) -> Option<Fault>
+fn failure_known(runners: &[Runner]) -> Option<BuildFault>
     ensures { MatchOption result
         (AreFailureless runners.now × (AllKnow Halt.Ended runners.now → AreUnfailed runners.now))
         (IsFailureOf runners.now) }
@@ -84,7 +83,6 @@ fn failure_known(runners: &[Runner]) -> Option<Fault>
     }
 }
 
-// Whether each runner knows of that halt.
 fn all_know(runners: &[Runner], halt: Halt) -> bool
     ensures { IsTrue result ↔ AllKnow halt runners.now }
 {
@@ -97,7 +95,7 @@ fn all_know(runners: &[Runner], halt: Halt) -> bool
 }
 
 // Why the runner of the node that failed the run has failed.
-fn failure_of(runners: &[Runner], node: usize) -> Option<Fault>
+fn failure_of(runners: &[Runner], node: usize) -> Option<BuildFault>
     requires { AllKnow (Halt.Failed node) runners.now }
     ensures { MatchOption result ((why : Cause) → ¬ IsFailure runners.now node why) (IsFailureOf runners.now) }
 {
@@ -107,7 +105,7 @@ fn failure_of(runners: &[Runner], node: usize) -> Option<Fault>
     let Some(cause) = failure_at(runners, node) else {
         return None;
     };
-    Some(Fault::Stopped { node, cause })
+    Some(BuildFault::Stopped { node, cause })
 }
 
 /// Refuses runners of which one has failed.
@@ -115,13 +113,13 @@ fn failure_of(runners: &[Runner], node: usize) -> Option<Fault>
 /// # Errors
 ///
 /// `Stopped` with the least node that has failed and its cause, and no other fault.
-pub fn find_failed(runners: &[Runner]) -> Result<(), Fault>
+pub fn find_failed(runners: &[Runner]) -> Result<(), BuildFault>
     ensures going { OnOk result (AreUnfailed runners.now) }
     ensures first { IfErr result (IsFirstFailed runners.now) }
 {
     for node in 0..runners.len() {
         if let Some(cause) = failure_at(runners, node) {
-            return Err(Fault::Stopped { node, cause });
+            return Err(BuildFault::Stopped { node, cause });
         }
     }
     Ok(())
@@ -139,7 +137,7 @@ fn failure_at(runners: &[Runner], place: usize) -> Option<Cause>
 fn close_all<R: Wait>(
     rt: &R,
     alloc: Global,
-    board: Board,
+    board: Blackboard,
     runners: Vec<Runner>,
 ) -> Result<(Vec<Share>, ClosedCrew), Memory>
     requires { IsCrew board (map endpoint_of runners.items) }

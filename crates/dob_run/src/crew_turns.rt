@@ -4,7 +4,7 @@ ghost use Rattle.dob_runner.specs.Runners.{says_no};
 ghost use Rattle.dob_crew.specs.CrewSizes.{AreThese};
 ghost use Rattle.dob_run.specs.CrewTurns.{AreLetOn, HasRun};
 
-use dob_board::Board;
+use dob_board::Blackboard;
 use dob_classes::Classes;
 use dob_crew::{CrewSizes, crew_of};
 use dob_pieces::{Family, Memory};
@@ -18,7 +18,7 @@ use std::thread::Threads;
 #[derive(Drop)]
 pub struct EndedCrew {
     pub classes: Classes,
-    pub board: Board,
+    pub board: Blackboard,
     pub runners: Vec<Runner>,
 }
 

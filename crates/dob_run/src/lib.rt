@@ -24,5 +24,5 @@ pub use crew_turns::{EndedCrew, run_crew};
 pub use dob_crew::{BATCH, CAPACITY, ClosedCrew, CrewSizes, close_runners, crew};
 pub use dob_gather::scan;
 pub use dob_runner::{AlwaysOpen, Gate, Runner};
-pub use dob_stops::Fault;
+pub use dob_share::BuildFault as Fault;
 pub use laws::finished_is_right;

@@ -4,7 +4,7 @@ pub use Rattle.std.proofs.Common.{Ok, Option, Result, Some, [], ap, append_assoc
 pub use Rattle.std.proofs.Common.{min, not, refl, rules, subst, suc, sym, take, true, zero, ℕ}
 pub use Rattle.std.proofs.lemmas.Bool.{both_ways, cases_Bool, cases_eq, cases_lt, eq-eqb, le-leb, leb-true, lt-ltb, ltb-false, ltb-true, ne_eqb, true≢false}
 pub use Rattle.std.proofs.lemmas.List.{append-nil, append_cancel_right, drop-append-le, length-take, take-append-drop, take-append-le}
-pub use Rattle.std.proofs.lemmas.List.Elements.{All-append, All-cons, All-drop, All-head, All-nil, All-tail, Contains-append_right}
+pub use Rattle.std.proofs.lemmas.List.Elements.{All-append, All-cons, All-nil, Contains-append_right}
 pub use Rattle.std.proofs.lemmas.Option.{same_Some, slice_get_within}
 pub use Rattle.std.specs.List.{All}
 pub use Rattle.std.specs.Prelude.{IfErr, IfSome, MatchResult, slice_get, slice_set, vec_len}
@@ -26,17 +26,17 @@ pub use Rattle.dob_share.specs.declared.share.Share.{Share}
 pub use Rattle.dob_update.proofs.BatchItems.{items_in_more}
 pub use Rattle.dob_update.specs.Batches.{BatchView, OutboxView, empty_outbox, items_of_batches}
 pub use Rattle.dob_share.specs.Items.{items_from, items_of}
-pub use Rattle.dob_stops.specs.declared.cause.Cause.{Cause}
-pub use Rattle.dob_stops.specs.declared.cause.Cause.TheVariants.{Counts, Held, Memory}
+pub use Rattle.dob_share.specs.declared.cause.Cause.{Cause}
+pub use Rattle.dob_share.specs.declared.cause.Cause.TheVariants.{Counts, Held, Memory}
 pub use Rattle.dob_history.proofs.Kepts.{fits_own, kept_still, news_is}
 pub use Rattle.dob_node.proofs.Nodes.{kept_sound, outbox_same}
-pub use Rattle.dob_lawful.proofs.Settles.{chained_more, emitted_grown, emitted_more, value_of-more}
-pub use Rattle.dob_lawful.proofs.ValuesFollow.{SumsUp-same}
-pub use Rattle.dob_lawful.specs.Histories.{IsChained, IsNext, all_known, value_of}
+pub use Rattle.dob_history.proofs.Settles.{chained_more, emitted_grown, emitted_more, value_of-more}
+pub use Rattle.dob_history.proofs.ValuesFollow.{SumsUp-same}
+pub use Rattle.dob_history.specs.Histories.{IsChained, IsNext, all_known, value_of}
 pub use Rattle.dob_node.specs.NodeViews.{NodeView}
 pub use Rattle.dob_node.specs.Nodes.{HasApplied, HasAppliedItems, HasCut, HasItemFault, HasTaken, IsExpanded, IsIdle, IsOpened, IsSound, IsUnchanged, outbox_to}
 pub use Rattle.dob_history.specs.Stores.{HistoryView}
-pub use Rattle.dob_history.specs.TakenItems.{AreKept, AreTaken, HasItemEntries, IsReason, IsTaken, listed}
+pub use Rattle.dob_history.specs.TakenItems.{AreKept, AreTaken, IsReason, IsTaken, listed}
 pub use Rattle.dob_node.specs.declared.node.Node.{Node}
 pub use Rattle.dob_board.specs.Histories.{token_moves_of}
 pub use Rattle.dob_board.specs.Seats.{IsSameSeat, MovesNothing, TakesOne}

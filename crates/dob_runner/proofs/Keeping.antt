@@ -105,7 +105,6 @@ pub outbox_still : (old new : Node) (to : ℕ) → IsUnchanged old new → outbo
 outbox_still old new to same = λ q. outbox_in (same.same.0 q) (same.same.2 q) (same.same.1 q) (same.outboxes q) to
 
 -- ---- runners
-
 pub runner_same : (r : Runner) → KeepsRunner r r
 runner_same r = record { endpoint = endpoint_same r.endpoint; family = refl; batch_size = refl; pace = refl }
 

@@ -1,11 +1,11 @@
 -- What a node has applied and what it knows: when it is opened, and after each step of its runner.
 use Rattle.dob_runner.proofs.Common.{◌*◌, ◌++◌, ◌+◌, ◌-◌, ◌<◌, ◌∙◌, ◌∷◌, ◌≡◌, ◌≢◌, ◌≤◌, Contains, List, None, Option, Some, [], ap, append_assoc, arith, cond}
 use Rattle.dob_runner.proofs.Common.{drop, eqb, inl, inr, length, length-append, min, refl, rules, subst, suc, sym, take, zero, ℕ, cases_eq, cases_lt, eq-eqb}
-use Rattle.dob_runner.proofs.Common.{ne_eqb, append-nil, drop-append-le, take-append-le, All-append, All-cons, All-head, All-nil, All-tail}
+use Rattle.dob_runner.proofs.Common.{ne_eqb, append-nil, drop-append-le, take-append-le, All-append, All-cons, All-nil}
 use Rattle.dob_runner.proofs.Common.{Contains-append_right, All, slice_get, at_end, Family, Status, Open, class_setup, classes_of, IsEntry, Value, Draw, Loss}
 use Rattle.dob_runner.proofs.Common.{Win, predecessors, CellValue-same, Cell, Changes, SameCell, SumsUp, changed, fresh, owner_of, Item, Settlement, Share}
 use Rattle.dob_runner.proofs.Common.{items_in_more, BatchView, items_of_batches, items_from, kept_sound, chained_more, value_of-more, SumsUp-same, IsChained}
-use Rattle.dob_runner.proofs.Common.{IsNext, all_known, value_of, IsOpened, IsSound, HistoryView, AreKept, AreTaken, HasItemEntries, IsTaken, listed, Node}
+use Rattle.dob_runner.proofs.Common.{IsNext, all_known, value_of, IsOpened, IsSound, HistoryView, AreKept, AreTaken, IsTaken, listed, Node}
 use Rattle.dob_runner.proofs.Common.{batches_of, AreCellsSummed, CanHaveMade, KnowsRight, least_loss, sum_of, AreLast, applied_from, items_worked, own_applied}
 use Rattle.dob_runner.proofs.Common.{planned, worked, Inlet, others_more, fits_own, kept_still, news_is}
 use Rattle.dob_chan.proofs.Deliveries.{own_more as batch_more}
@@ -15,19 +15,19 @@ use Rattle.dob_distance.proofs.Distances.{same_loss}
 use Rattle.dob_share.specs.Values.{Better}
 use Rattle.dob_share.specs.Shares.{status_at, cell_at, IsValue, HasValueNow, HasSettled, IsOwn, places_of}
 use Rattle.dob_share.proofs.Sums.{sums_up_after}
-use Rattle.dob_lawful.proofs.Splits.{IsMade, IsFrom, split, made_from}
-use Rattle.dob_lawful.proofs.Learns.{learnt, nothing_learnt}
-use Rattle.dob_lawful.proofs.Kept.{all_known-same}
+use Rattle.dob_history.proofs.Splits.{IsMade, IsFrom, split, made_from}
+use Rattle.dob_history.proofs.Learns.{learnt, nothing_learnt}
+use Rattle.dob_history.proofs.Kept.{all_known-same}
 use Rattle.dob_node.proofs.ItemChanges.{one_value, fits_open, value_elsewhere}
-use Rattle.dob_lawful.proofs.Rises.{same_back}
+use Rattle.dob_history.proofs.Rises.{same_back}
 use Rattle.dob_moves.specs.MoveLists.{moves_of}
 use Rattle.dob_moves.proofs.Cases.{one_status}
 use Rattle.dob_share.specs.declared.opening.Opening.{Opening}
-use Rattle.dob_lawful.specs.Openings.{AreOpenings}
+use Rattle.dob_history.specs.Openings.{AreOpenings}
 use Rattle.dob_history.specs.OpeningLists.{opening_value, opening_status}
-use Rattle.dob_lawful.proofs.Totals.{start_sums}
-use Rattle.dob_lawful.proofs.Opens.{listed_opening}
-use Rattle.dob_lawful.proofs.Beginnings.{or_else, opened_value, opened_chained, opened_entries}
+use Rattle.dob_history.proofs.Totals.{start_sums}
+use Rattle.dob_history.proofs.Opens.{listed_opening}
+use Rattle.dob_history.proofs.Beginnings.{or_else, opened_value, opened_chained, opened_entries}
 
 -- items that are taken make a history that goes on
 pub history_grown : (items : List Item) (share after : Share) (history grown : HistoryView) → AreTaken items share after history grown →
@@ -41,7 +41,6 @@ history_grown (item ∷ items) share after history grown taken =
     )
 
 -- ---- the last of a list
-
 pub last_more : (whole last more : List Item) → AreLast whole last → AreLast (whole ++ more) (last ++ more)
 last_more whole last more are =
     let same : length (whole ++ more) - length (last ++ more) ≡ length whole - length last =
@@ -68,7 +67,6 @@ pub each_more : (P : BatchView → Type 0) (batches : List BatchView) (batch : B
 each_more P batches batch each last k b at = elim (at_end batches batch b k at) [ inl before ↦ each k b before | inr here ↦ subst P here.1 last ]
 
 -- ---- what a node has applied from each node, after each step of its runner
-
 take_next : (k : ℕ) (xs : List Item) (x : Item) (rest : List Item) → drop k xs ≡ x ∷ rest → take (suc k) xs ≡ take k xs ++ x ∷ []
 take_next zero [] x rest e = absurd (cc)
 take_next zero (y ∷ xs) x rest e = let same : y ≡ x = cc in ap (λ z. z ∷ []) same
@@ -91,7 +89,6 @@ pub own_still : (old new : Node) → planned new new.id ≡ planned old old.id �
 own_still old new plan own = λ q. take (length (plan q) - length (own q)) (plan q)
 
 -- ---- each node's
-
 pub applied_here : (node : Node) (inlet : Inlet) (k : ℕ) → k ≡ node.id → applied_from node inlet k ≡ own_applied node
 applied_here node inlet k is = ap (λ b. cond b (own_applied node) (items_worked inlet k)) (eq-eqb k node.id is)
 
@@ -103,7 +100,6 @@ pub applied_still : (old new : Node) (before after : Inlet) → new.id ≡ old.i
 applied_still old new before after id own same k = λ q. cond (eqb k (id q)) (own q) (same k q)
 
 -- ---- what was worked in
-
 pub worked_again : (before after : Inlet) → worked after ≡ worked before → (k : ℕ) → items_worked after k ≡ items_worked before k
 worked_again before after same k = ap (λ (bs : List BatchView). items_of_batches (batches_of k bs)) same
 
@@ -117,13 +113,11 @@ pub worked_else : (before after : Inlet) (batch : BatchView) → worked after �
 worked_else before after batch more k other = grind (arith, others_more)
 
 -- ---- what is known, told of the node after a step
-
 pub knows_after : (old new : Node) (applied : ℕ → List Item) → new.family ≡ old.family → new.id ≡ old.id → new.n ≡ old.n →
     KnowsRight old.family old.n old.id new.share new.history.settlements applied → KnowsRight new.family new.n new.id new.share new.history.settlements applied
 knows_after old new applied family_is id_is n_is knows = grind arith
 
 -- ---- cells that are the sum of what is known, as an equation and as a relation
-
 behind : (known : List Value) (v w : Value) → Contains known w → Contains (v ∷ known) w
 behind known v w there = Contains-append_right (v ∷ []) known w there
 
@@ -172,7 +166,6 @@ one_least known (Some a) (Some b) one other =
     ap Some (let e : a ≡ b = omega arith in e)
 
 -- ---- the cell
-
 pub sums_by : (known : List Value) (cell : Cell) → SameCell cell (sum_of known) → SumsUp known cell
 sums_by known cell same = grind (arith, least_is)
 
@@ -180,12 +173,10 @@ pub is_sum : (known : List Value) (cell : Cell) → SumsUp known cell → SameCe
 is_sum known cell sums = grind (arith, one_least, least_is)
 
 -- ---- what a node knows stays right, whatever it takes
-
 abbrev pub known_by : Family → ℕ → (ℕ → List Settlement) → (ℕ → List Item) → ℕ → List Value
 known_by family n histories applied class = all_known (predecessors family) (classes_of family) n histories applied class
 
 -- ---- cells that say the same
-
 pub same_cells : (a b c : Cell) → SameCell a b → SameCell b c → SameCell a c
 same_cells a b c one other = search rules
 
@@ -252,7 +243,7 @@ module _ (family : Family) (n id : ℕ) (histories : ℕ → List Settlement) (a
 
 module _ (family : Family) (n id : ℕ) (share mid : Share) (history longer : HistoryView) (applied after : ℕ → List Item) (i : ℕ) (low : i < n) (item : Item)
     (grown : after i ≡ applied i ++ item ∷ []) (same_else : (k : ℕ) → k ≢ i → after k ≡ applied k) (kept : AreKept family n id share history)
-    (entries : HasItemEntries item) (taken : IsTaken item share mid history longer) (knows : KnowsRight family n id share history.settlements applied) where
+    (taken : IsTaken item share mid history longer) (knows : KnowsRight family n id share history.settlements applied) where
   abbrev h : List Settlement
   h = history.settlements
 
@@ -295,7 +286,7 @@ module _ (family : Family) (n id : ℕ) (share mid : Share) (history longer : Hi
   entries_after (Some s) settled is = subst (λ xs. All (λ (s : Settlement). IsEntry s.now) xs) (sym is)
       (All-append (λ (s : Settlement). IsEntry s.now) h (s ∷ []) knows.entries
       (All-cons (λ (s : Settlement). IsEntry s.now) s []
-      (news_is family n id share mid history longer item kept entries taken s settled).now
+      (news_is family n id share mid history longer item kept taken s settled).now
       (All-nil (λ (s : Settlement). IsEntry s.now))))
 
   values_after : (given : Option Settlement) → HasSettled share mid item.to given → g ≡ h ++ listed given →
@@ -332,7 +323,6 @@ module _ (family : Family) (n id : ℕ) (share mid : Share) (history longer : Hi
       }
 
 -- ---- the same items applied
-
 pub knows_same : (family : Family) (n id : ℕ) (share : Share) (history : List Settlement) (applied after : ℕ → List Item) → ((k : ℕ) → after k ≡ applied k) →
     KnowsRight family n id share history applied → KnowsRight family n id share history after
 knows_same family n id share history applied after same knows = record {
@@ -349,14 +339,13 @@ knows_same family n id share history applied after same knows = record {
 }
 
 -- ---- items of one node, one after the other
-
 abbrev with_one : (ℕ → List Item) → ℕ → Item → ℕ → List Item
 with_one applied i item k = cond (eqb k i) (applied i ++ item ∷ []) (applied k)
 
 pub taken_all : (family : Family) (n id : ℕ) (i : ℕ) → i < n → (items : List Item) (share after : Share) (history grown : HistoryView) (applied later : ℕ → List Item) →
-    AreKept family n id share history → All HasItemEntries items → AreTaken items share after history grown → later i ≡ applied i ++ items →
+    AreKept family n id share history → AreTaken items share after history grown → later i ≡ applied i ++ items →
     ((k : ℕ) → k ≢ i → later k ≡ applied k) → KnowsRight family n id share history.settlements applied → KnowsRight family n id after grown.settlements later
-taken_all family n id i low [] share after history grown applied later kept entries taken more same knows =
+taken_all family n id i low [] share after history grown applied later kept taken more same knows =
     subst (λ (p : Share × HistoryView). KnowsRight family n id p.0 p.1.settlements later) (λ q. (sym taken.0 q, sym taken.1 q))
     (knows_same family n id share history.settlements applied later all knows)
   where
@@ -365,11 +354,11 @@ taken_all family n id i low [] share after history grown applied later kept entr
       | inl here ↦ subst (λ m. later m ≡ applied m) (sym here) (more ∙ append-nil (applied i))
       | inr other ↦ same k other
     ]
-taken_all family n id i low (item ∷ items) share after history grown applied later kept entries taken more same knows =
-    taken_all family n id i low items taken.0 after taken.1 grown (with_one applied i item) later kept_between (All-tail HasItemEntries item items entries) taken.3
+taken_all family n id i low (item ∷ items) share after history grown applied later kept taken more same knows =
+    taken_all family n id i low items taken.0 after taken.1 grown (with_one applied i item) later kept_between taken.3
     (more ∙ sym (append_assoc (applied i) (item ∷ []) items) ∙ ap (λ xs. xs ++ items) (sym one_more))
     (λ k other. same k other ∙ sym (elsewhere k other))
-    (taken_one family n id share taken.0 history taken.1 applied (with_one applied i item) i low item one_more elsewhere kept (All-head HasItemEntries item items entries) taken.2 knows)
+    (taken_one family n id share taken.0 history taken.1 applied (with_one applied i item) i low item one_more elsewhere kept taken.2 knows)
   where
     one_more : with_one applied i item i ≡ applied i ++ item ∷ []
     one_more = ap (λ b. cond b (applied i ++ item ∷ []) (applied i)) (eq-eqb i i refl)
@@ -378,7 +367,7 @@ taken_all family n id i low (item ∷ items) share after history grown applied l
     elsewhere k other = ap (λ b. cond b (applied i ++ item ∷ []) (applied k)) (ne_eqb k i other)
 
     kept_between : AreKept family n id taken.0 taken.1
-    kept_between = kept_still family n id share taken.0 history taken.1 item kept (All-head HasItemEntries item items entries) taken.2
+    kept_between = kept_still family n id share taken.0 history taken.1 item kept taken.2
 
 -- ---- what a node knows when it is opened
 

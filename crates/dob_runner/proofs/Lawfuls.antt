@@ -1,10 +1,10 @@
 -- Each step of a runner leaves it lawful.
 use Rattle.dob_runner.proofs.Common.{◌++◌, ◌-◌, ◌<◌, ◌∙◌, ◌∷◌, ◌≡◌, ◌≢◌, ◌≤◌, List, None, Some, [], ap, append_assoc, arith, cond, drop, eqb, false, inl, inr}
 use Rattle.dob_runner.proofs.Common.{length, length-append, refl, rules, subst, sym, take, true, ℕ, cases_Bool, cases_eq, true≢false, append-nil, length-take}
-use Rattle.dob_runner.proofs.Common.{take-append-drop, All-drop, All-head, slice_get_within, All, slice_get, slice_set, Family, predecessors, Item, Settlement}
+use Rattle.dob_runner.proofs.Common.{take-append-drop, slice_get_within, slice_get, slice_set, Family, predecessors, Item, Settlement}
 use Rattle.dob_runner.proofs.Common.{Share, items_in_more, BatchView, OutboxView, empty_outbox, items_of_batches, items_from, items_of, outbox_same}
 use Rattle.dob_runner.proofs.Common.{emitted_grown, emitted_more, NodeView, HasApplied, HasAppliedItems, HasCut, HasTaken, IsExpanded, IsIdle, IsSound}
-use Rattle.dob_runner.proofs.Common.{IsUnchanged, outbox_to, HistoryView, HasItemEntries, IsTaken, listed, Node, batches_of, AreOut, HasChangedOne}
+use Rattle.dob_runner.proofs.Common.{IsUnchanged, outbox_to, HistoryView, IsTaken, listed, Node, batches_of, AreOut, HasChangedOne}
 use Rattle.dob_runner.proofs.Common.{HasSameLinksAndColour, KnowsRight, AreLast, IsLawfulRunner, SendsRight, applied_from, items_worked, own_applied, planned}
 use Rattle.dob_runner.proofs.Common.{IsOffered, offered, IsNew, Endpoint, Inlet, Outlet, kept_still}
 use Rattle.dob_history.proofs.Kepts.{emitted_still}
@@ -14,7 +14,6 @@ use Rattle.dob_endpoint.proofs.Links.{each_after}
 use Rattle.dob_runner.proofs.Keeping.{outbox_still}
 
 -- ---- the endpoint alone changed
-
 worked_still : (node : Node) (old new : Endpoint) → ((k : ℕ) → items_worked new.inlet k ≡ items_worked old.inlet k) →
     KnowsRight node.family node.n node.id node.share node.history.settlements (applied_from node old.inlet) →
     KnowsRight node.family node.n node.id node.share node.history.settlements (applied_from node new.inlet)
@@ -123,7 +122,6 @@ offered_again family size to node old new law seat one inlet = relinked family s
         (elim one.3.slot [ inl same ↦ same ∙ empty to one.0 one.2 | inr gone ↦ gone ])
 
 -- ---- the node alone changed
-
 planned_same : (old new : Node) (to : ℕ) → new.family ≡ old.family → new.n ≡ old.n → new.expanded ≡ old.expanded →
     (more : List Settlement) → new.history.settlements ≡ old.history.settlements ++ more → old.expanded ≤ length old.history.settlements →
     planned new to ≡ planned old to
@@ -147,8 +145,7 @@ applied_own family size old new endpoint law step sound =
       knows = knows_after old new (applied_from new endpoint.inlet) step.same.0 step.same.1 step.same.2
           (taken_one old.family old.n old.id old.share new.share old.history new.history (applied_from old endpoint.inlet) (applied_from new endpoint.inlet)
           old.id law.sound.kept.one_of_n step.item
-          (one_more (ap (λ i. planned new i) step.same.1 ∙ plan old.id)) (λ k other. elsewhere k other) law.sound.kept
-          (All-head HasItemEntries step.item new.own (subst (λ xs. All HasItemEntries xs) step.first law.sound.entries)) step.taken law.knows);
+          (one_more (ap (λ i. planned new i) step.same.1 ∙ plan old.id)) (λ k other. elsewhere k other) law.sound.kept step.taken law.knows);
       white = λ is. absurd (let none = (law.white is).0.applied in let some = step.first in cc);
     }
   where
@@ -163,18 +160,15 @@ applied_own family size old new endpoint law step sound =
     elsewhere k other = applied_else new endpoint.inlet k (λ e. other (e ∙ step.same.1)) ∙ sym (applied_else old endpoint.inlet k other)
 
 -- a node stays sound where it takes the first of its own items
-sound_next : (old : NodeView) (item : Item) (rest : List Item) (between : Share) (longer : HistoryView) → IsSound old → old.own ≡ item ∷ rest →
+sound_next : (old : NodeView) (item : Item) (rest : List Item) (between : Share) (longer : HistoryView) → IsSound old →
     IsTaken item old.share between old.history longer → IsSound (record old { share = between; history = longer; own = rest })
-sound_next old item rest between longer sound first taken =
-    let entries = subst (λ xs. All HasItemEntries xs) first sound.entries in
-    record {
-      kept = kept_still old.family old.n old.id old.share between old.history longer item sound.kept (All-head HasItemEntries item rest entries) taken;
-      emitted = emitted_still item old.share between old.history longer old.expanded taken sound.emitted;
-      entries = All-drop HasItemEntries 1 (item ∷ rest) entries;
-      receivers = sound.receivers;
-      addressed = sound.addressed;
-      nothing_to_self = sound.nothing_to_self;
-    }
+sound_next old item rest between longer sound taken = record {
+  kept = kept_still old.family old.n old.id old.share between old.history longer item sound.kept taken;
+  emitted = emitted_still item old.share between old.history longer old.expanded taken sound.emitted;
+  receivers = sound.receivers;
+  addressed = sound.addressed;
+  nothing_to_self = sound.nothing_to_self;
+}
 
 -- and its first so many
 pub applied_items : (family : Family) (size : ℕ) (items : List Item) (old new : NodeView) (endpoint : Endpoint) → IsLawfulRunner family size old endpoint →
@@ -187,16 +181,16 @@ applied_items family size (item ∷ items) old new endpoint law step sound =
     applied_items family size items mid new endpoint
     (applied_own family size old mid endpoint law
     (record { item = item; first = step.first; taken = step.taken.2; same = (refl, refl, refl, refl); outboxes = refl })
-    (sound_next old item rest step.taken.0 step.taken.1 law.sound step.first step.taken.2))
+    (sound_next old item rest step.taken.0 step.taken.1 law.sound step.taken.2))
     (record { first = refl; taken = step.taken.3; same = step.same; outboxes = step.outboxes }) sound
 
 -- a batch of another node was counted as worked in, which blackens the seat, and applied
 pub applied_batch : (family : Family) (size from : ℕ) (batch : BatchView) (node after : Node) (old new : Endpoint) → IsLawfulRunner family size node old →
-    from < old.seat.nodes → from ≢ old.seat.node → All HasItemEntries batch.items → HasTaken batch.items node after → IsSound after →
+    from < old.seat.nodes → from ≢ old.seat.node → HasTaken batch.items node after → IsSound after →
     new.seat.node ≡ old.seat.node → new.seat.nodes ≡ old.seat.nodes → new.seat.stand.black ≡ true → new.outlets.items ≡ old.outlets.items →
     ((k : ℕ) → k ≢ from → items_worked new.inlet k ≡ items_worked old.inlet k) →
     items_worked new.inlet from ≡ items_worked old.inlet from ++ batch.items → IsLawfulRunner family size after new
-applied_batch family size from batch node after old new law low apart entries step sound same_node same_nodes black same_outlets same_worked more_worked = record {
+applied_batch family size from batch node after old new law low apart step sound same_node same_nodes black same_outlets same_worked more_worked = record {
   of = (step.same.0 ∙ law.of.0, step.same.1 ∙ (law.of.1 ∙ sym same_node), step.same.2 ∙ (law.of.2 ∙ sym same_nodes));
   sound = sound;
   sends = λ to outlet other at. sends_still node after size to (offered outlet) (plan to)
@@ -206,7 +200,7 @@ applied_batch family size from batch node after old new law low apart entries st
   own = subst (λ w. AreLast w after.own) (sym own_plan) (subst (λ own. AreLast (planned node node.id) own) (sym step.own) law.own);
   knows = knows_after node after (applied_from after new.inlet) step.same.0 step.same.1 step.same.2
       (taken_all node.family node.n node.id from (subst (λ m. from < m) (sym law.of.2) low) batch.items node.share after.share node.history after.history
-      (applied_from node old.inlet) (applied_from after new.inlet) law.sound.kept entries step.taken one_more elsewhere law.knows);
+      (applied_from node old.inlet) (applied_from after new.inlet) law.sound.kept step.taken one_more elsewhere law.knows);
   white = λ is. absurd (true≢false (sym black ∙ is));
 }
   where
@@ -275,7 +269,6 @@ expanded_one family size old new endpoint law step sound = record {
         }
 
 -- ---- a batch was cut and put into the slot of an outlet
-
 pub cut_one : (family : Family) (size to : ℕ) (batch : BatchView) (node after : Node) (old new : Endpoint) → IsLawfulRunner family size node old →
     to ≢ old.seat.node → HasCut to size batch node after → IsSound after → new.seat.node ≡ old.seat.node → new.seat.nodes ≡ old.seat.nodes → new.seat.stand.black ≡ true →
     HasChangedOne (λ (x y : Outlet). (y.end ≡ x.end) × (offered y ≡ offered x ++ batch ∷ [])) to old.outlets.items new.outlets.items →

@@ -13,7 +13,6 @@ use Rattle.dob_runner.specs.declared.turn_loop.Until.TheVariants.{Turns, Halted}
 use Rattle.dob_runner.specs.TurnLoop.{IsThrough, EndsBy, IsLetOn}
 
 -- ---- answers
-
 pub same_answer : (did other : Bool) → (let given : Result Bool Cause = Ok did in given ≡ Ok other) → did ≡ other
 same_answer did other is = cc
 

@@ -1,16 +1,13 @@
 -- The batches that a node works in, and the one of them that lies in a slot.
 use Rattle.std.specs.Prelude.{◌≡◌, ◌≢◌, ℕ, Some}
-use Rattle.std.specs.List.{All}
 use Rattle.dob_pieces.specs.declared.profile.Family.{Family}
 use Rattle.dob_update.specs.Batches.{BatchView}
-use Rattle.dob_history.specs.TakenItems.{HasItemEntries}
 use Rattle.dob_endpoint.specs.declared.slots.Inlet.{Inlet}
 
--- a batch of the family among n nodes, for that node, with items that have such values as a table can have
+-- a batch of the family among n nodes, for that node
 pub record IsBatchFor (family : Family) (n to : ℕ) (batch : BatchView) : Type 0 where
   pub of : (batch.family ≡ family) × (batch.n ≡ n)
   pub receiver : batch.to ≡ to
-  pub entries : All HasItemEntries batch.items
 
 -- In the slot lies a batch of the node `from`, which is for the node `to`, another one, of that family and one of n.
 pub record HoldsFor (family : Family) (n from to : ℕ) (inlet : Inlet) : Type 0 where

@@ -21,7 +21,7 @@ use Rattle.dob_share.specs.Values.{is_win_in}
 use Rattle.dob_share.specs.Cells.{Cell, SameCell}
 use Rattle.dob_share.specs.Shares.{status_at, cell_at, HasValueNow}
 use Rattle.dob_share.specs.Items.{items_from}
-use Rattle.dob_lawful.specs.Histories.{value_of, all_known, IsChained}
+use Rattle.dob_history.specs.Histories.{value_of, all_known, IsChained}
 
 -- the least loss among the values, where there is one
 abbrev pub least_loss : List Value → Option ℕ

@@ -5,8 +5,8 @@ use Rattle.dob_unmove.specs.Edges.{predecessors}
 use Rattle.dob_share.specs.declared.news.Item.{Item}
 use Rattle.dob_share.specs.Items.{items_from}
 use Rattle.dob_update.specs.Batches.{BatchView, items_of_batches}
-use Rattle.dob_stops.specs.declared.cause.Cause.{Cause}
-use Rattle.dob_stops.specs.declared.cause.Cause.TheVariants.{TooDeep, Contradiction, Memory, Held, Counts}
+use Rattle.dob_share.specs.declared.cause.Cause.{Cause}
+use Rattle.dob_share.specs.declared.cause.Cause.TheVariants.{TooDeep, Contradiction, Memory, Held, Counts}
 use Rattle.dob_node.specs.declared.node.Node.{Node}
 use Rattle.dob_node.specs.Nodes.{outbox_to, IsSound, IsIdle}
 use Rattle.dob_endpoint.specs.declared.slots.Outlet.{Outlet}

@@ -20,10 +20,10 @@ use Rattle.dob_share.specs.Cells.{Cell, SameCell}
 use Rattle.dob_share.specs.Values.{Better}
 use Rattle.dob_share.specs.Shares.{IsOwn, cell_at}
 use Rattle.dob_update.specs.Batches.{BatchView, OutboxView}
-use Rattle.dob_lawful.specs.Histories.{IsNext, IsChained}
+use Rattle.dob_history.specs.Histories.{IsNext, IsChained}
 use Rattle.dob_node.specs.declared.node.Node.{Node}
 use Rattle.dob_history.specs.Stores.{HistoryView}
-use Rattle.dob_history.specs.TakenItems.{HasItemEntries, HasParities, AreKept}
+use Rattle.dob_history.specs.TakenItems.{HasParities, AreKept}
 use Rattle.dob_node.specs.Outboxes.{IsOutboxTo}
 use Rattle.dob_node.specs.Nodes.{outbox_to, IsSound, IsIdle}
 use Rattle.dob_board.specs.Props.{ℕ-set}
@@ -51,9 +51,6 @@ IsEntry-prop (Win plies) = ×_prop (ℕ-set _ _) le_prop
 IsEntry-prop (Loss plies) = ×_prop (ℕ-set _ _) le_prop
 IsEntry-prop Draw = Unit-prop
 
-HasEntries-prop : (item : Item) → IsProp (HasItemEntries item)
-HasEntries-prop item = ×_prop (IsEntry-prop item.was) (IsEntry-prop item.now)
-
 IsOwn-prop : (share : Share) (class : ℕ) → IsProp (IsOwn share class)
 unfolding IsOwn
 IsOwn-prop share class = ×_prop (ℕ-set _ _) le_prop
@@ -79,14 +76,12 @@ AreKept-prop family n id share history a b = λ i. record {
 IsOutboxTo-prop : (family : Family) (n from to : ℕ) (outbox : OutboxView) → IsProp (IsOutboxTo family n from to outbox)
 IsOutboxTo-prop family n from to outbox a b = λ i. record {
   of = (family_set _ _ a.of.0 b.of.0 i, ℕ-set _ _ a.of.1 b.of.1 i, ℕ-set _ _ a.of.2 b.of.2 i, ℕ-set _ _ a.of.3 b.of.3 i);
-  entries = All-prop HasItemEntries HasEntries-prop outbox.items a.entries b.entries i;
 }
 
 pub IsSound-prop : (node : Node) → IsProp (IsSound node)
 IsSound-prop node a b = λ i. record {
   kept = AreKept-prop node.family node.n node.id node.share node.history a.kept b.kept i;
   emitted = le_prop a.emitted b.emitted i;
-  entries = All-prop HasItemEntries HasEntries-prop node.own a.entries b.entries i;
   receivers = ℕ-set _ _ a.receivers b.receivers i;
   addressed = Π_prop (λ to. IsOutboxTo-prop node.family node.n node.id to (outbox_to node to)) a.addressed b.addressed i;
   nothing_to_self = items_set _ _ a.nothing_to_self b.nothing_to_self i;

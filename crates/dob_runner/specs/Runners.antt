@@ -4,10 +4,10 @@ use Rattle.dob_pieces.specs.declared.profile.Family.{Family}
 use Rattle.dob_share.specs.declared.opening.Opening.{Opening}
 use Rattle.dob_board.specs.declared.halt.Halt.TheVariants.{Running, Ended}
 use Rattle.dob_board.specs.Seats.{MovesNothing}
-use Rattle.dob_stops.specs.declared.cause.Cause.{Cause}
-use Rattle.dob_stops.specs.declared.cause.Cause.TheVariants.{TooDeep, Contradiction, Memory, Held, Counts}
+use Rattle.dob_share.specs.declared.cause.Cause.{Cause}
+use Rattle.dob_share.specs.declared.cause.Cause.TheVariants.{TooDeep, Contradiction, Memory, Held, Counts}
 use Rattle.dob_node.specs.declared.node.Node.{Node}
-use Rattle.dob_lawful.specs.Openings.{AreOpenings}
+use Rattle.dob_history.specs.Openings.{AreOpenings}
 use Rattle.dob_node.specs.Nodes.{outbox_to, HasItemFault, HasTakenBefore, IsIdle, IsSound, IsOpened}
 use Rattle.dob_update.specs.Batches.{BatchView}
 use Rattle.dob_endpoint.specs.declared.slots.Outlet.{Outlet}

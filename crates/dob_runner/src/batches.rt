@@ -1,17 +1,14 @@
 // Which batches are a node's to work in, and whether the one in its slot is.
 ghost use Rattle.std.specs.Prelude.{◌≡◌, ◌↔◌, ℕ, IsTrue, MatchOption};
-ghost use Rattle.std.specs.List.{All};
-ghost use Rattle.dob_history.specs.TakenItems.{HasItemEntries};
 ghost use Rattle.dob_runner.specs.Batches.{IsBatchFor, HoldsFor};
 
 use dob_endpoint::Inlet;
-use dob_history::have_entries;
 use dob_pieces::{Family, PieceSet, Profile};
 use dob_safra::NodeCount;
 use dob_update::Batch;
 
-// The sender of the batch in the inlet's slot, if that is one that another node cut for the node `to` of that family, one of `nodes`,
-// with items that such a node can work in. Any other batch is none of the node's.
+// The sender of the batch in the inlet's slot, if that is one that another node cut for the node `to` of that family, one of `nodes`. Any
+// other batch is none of the node's.
 pub(crate) fn sender_for(
     inlet: &Inlet,
     family: Family,
@@ -33,21 +30,11 @@ pub(crate) fn sender_for(
     Some(from)
 }
 
-// Whether the batch is one of the family among `nodes` nodes, for that node, with items that have such values as a table can have.
+// Whether the batch is one of the family among `nodes` nodes, for that node.
 fn is_for(batch: &Batch, family: Family, nodes: NodeCount, to: usize) -> bool
     ensures { IsTrue result ↔ IsBatchFor family nodes to batch.now }
 {
-    if !is_one_family(batch.family(), family) || batch.nodes() != nodes.get() || batch.to() != to {
-        return false;
-    }
-    has_entries(batch)
-}
-
-// Whether its items have such values as a table can have.
-fn has_entries(batch: &Batch) -> bool
-    ensures { IsTrue result ↔ All HasItemEntries batch.now.items }
-{
-    have_entries(batch.parts())
+    is_one_family(batch.family(), family) && batch.nodes() == nodes.get() && batch.to() == to
 }
 
 // Whether the two are one family.

@@ -2,7 +2,7 @@
 ghost use Rattle.std.specs.Prelude.{◌≡◌, ◌≢◌, ◌⊎◌, None, Some};
 ghost use Rattle.std.specs.Coded.{Π_prop};
 ghost use Rattle.dob_board.specs.declared.halt.Halt.TheVariants.{Running, Ended, Failed};
-ghost use Rattle.dob_stops.specs.declared.cause.Cause.{Cause};
+ghost use Rattle.dob_share.specs.declared.cause.Cause.{Cause};
 ghost use Rattle.dob_runner.specs.LawfulRunners.{IsLawfulRunner, IsSpared};
 ghost use Rattle.dob_runner.specs.Props.{IsLawfulRunner-prop};
 

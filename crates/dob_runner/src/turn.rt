@@ -2,7 +2,7 @@
 ghost use Rattle.std.specs.Prelude.{◌≡◌, ◌≢◌, ◌↔◌, ◌-◌, ◌<◌, IsTrue, Err, None, Some, IfErr, MatchOption, MatchResult, length, true, false};
 ghost use Rattle.dob_board.specs.declared.halt.Halt.TheVariants.{Running};
 ghost use Rattle.dob_board.specs.Seats.{MovesNothing};
-ghost use Rattle.dob_stops.specs.declared.cause.Cause.TheVariants.{Held};
+ghost use Rattle.dob_share.specs.declared.cause.Cause.TheVariants.{Held};
 ghost use Rattle.dob_runner.specs.Runners.{StepsBy, GoesRound, HasFailed, IsHeldBack, IsTurnedAway, IsNew, GateIsAsked, IsReasonFor, says_no};
 ghost use Rattle.dob_node.specs.NodeViews.{NodeView};
 ghost use Rattle.dob_runner.specs.TurnRounds.{IsLevel, IsAbove, HearsLimit, SendsSmall, Works};

@@ -2,7 +2,7 @@
 ghost use Rattle.std.specs.Prelude.{◌≡◌, ◌≢◌, true, Err, None, IfErr, MatchResult};
 ghost use Rattle.dob_board.specs.declared.halt.Halt.TheVariants.{Running};
 ghost use Rattle.dob_board.specs.Seats.{MovesNothing};
-ghost use Rattle.dob_stops.specs.declared.cause.Cause.TheVariants.{Held};
+ghost use Rattle.dob_share.specs.declared.cause.Cause.TheVariants.{Held};
 ghost use Rattle.dob_runner.specs.Runners.{HasFailed, KeepsRunner, IsHeldBack, GateIsAsked, IsReasonFor, IsReasoned, says_no};
 ghost use Rattle.dob_runner.specs.TurnRounds.{AddsFew, Works};
 ghost use Rattle.dob_runner.specs.Turns.{GateIsTold};

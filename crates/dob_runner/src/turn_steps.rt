@@ -2,7 +2,7 @@
 //
 // A link is asked and moved here. The endpoint is borrowed before a link of it changes, so that what its type says of the counts is asked of it alone.
 ghost use Rattle.std.specs.Prelude.{◌≡◌, ◌≢◌, ◌↔◌, ◌<◌, IsTrue, Err, None};
-ghost use Rattle.dob_stops.specs.declared.cause.Cause.TheVariants.{Memory};
+ghost use Rattle.dob_share.specs.declared.cause.Cause.TheVariants.{Memory};
 ghost use Rattle.dob_runner.specs.Runners.{FailsFor, StepsBy};
 ghost use Rattle.dob_runner.specs.TurnRounds.{RunnerTakesBatch, LeavesBatch, ExpandsOne, HasToSend, FillsFor, SendsTo};
 

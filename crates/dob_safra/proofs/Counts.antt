@@ -23,7 +23,6 @@ counters_are n ring zero = refl
 counters_are n ring (suc k) = omega (arith, ints, counters_are n ring k)
 
 -- ---- one event
-
 pub row_stays : (n i : ℕ) (f g : ℕ → ℕ → ℕ) → i < n → CountsStay n f g → sum_below n (λ j. g i j) ≡ sum_below n (λ j. f i j)
 row_stays n i f g lt stay = sum_same n (λ j. f i j) (λ j. g i j) (λ j less. stay i j lt less)
 

@@ -58,7 +58,6 @@ counters_stay n k old new le posted taken =
     )
 
 -- ---- post
-
 posts_reason : (n i j : ℕ) (old new : Ring) (token : Token) → token.at < n → Posts n old i j new → Reason n old token → Reason n new token
 posts_reason n i j old new token at posts (counted white sum) =
     ⊎_elim
@@ -158,7 +157,6 @@ takes_kept n i j old new lawful takes few =
     }
 
 -- ---- pass
-
 abbrev token_of : ℕ → Bool → ℤ → Token
 token_of at black sum = record { at = at; black = black; sum = sum }
 
@@ -274,7 +272,6 @@ passes_kept n i old new size lawful passes =
     }
 
 -- ---- announce
-
 announced_reason : (n : ℕ) (old new : Ring) (token : Token) → token.at < n → CountsStay n old.posted new.posted → CountsStay n old.taken new.taken →
     ColoursStay n old new → Reason n old token → Reason n new token
 announced_reason n old new token at posted taken colours (counted white sum) =
@@ -301,7 +298,6 @@ announces_kept n old new size lawful announces =
     }
 
 -- ---- any event
-
 pub moved_kept : (n : ℕ) (old new : Ring) (event : RingEvent) → IsSize n → IsLawfulRing n old → Moved n old event new → HasFew n new → IsLawfulRing n new
 moved_kept n old new (Post from to) size lawful moved few = posts_kept n from to old new lawful moved few
 moved_kept n old new (Take from to) size lawful moved few = takes_kept n from to old new lawful moved few
@@ -309,7 +305,6 @@ moved_kept n old new (Pass node) size lawful moved few = passes_kept n node old 
 moved_kept n old new Announce size lawful moved few = announces_kept n old new size lawful moved
 
 -- ---- after the end
-
 announced_stays : (n : ℕ) (old new : Ring) (event : RingEvent) → old.announced ≡ true → Moved n old event new → new.announced ≡ true
 announced_stays n old new Announce ended moved = moved.announced
 announced_stays n old new _ ended moved = moved.announced ∙ ended
@@ -334,7 +329,6 @@ end_stays n old new event size lawful ended moved =
     )
 
 -- ---- what fits
-
 pub lawful_fits : (n : ℕ) (ring : Ring) → IsSize n → IsLawfulRing n ring → Fits n ring
 lawful_fits n ring size lawful =
     let at : ℕ = ring.token.at in

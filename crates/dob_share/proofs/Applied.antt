@@ -139,7 +139,6 @@ module _ {slots : List CellHead} {pool : List ℕ} {place : ℕ} {slot : CellHea
           not_deep deep = not_too_deep (changed was now (cell_by slot pool)) (step.fits next refl).1 (rw cell_same deep)
 
 -- ---- values of a cell with a win, or with none while moves are left
-
 win_value_is : (slot : CellHead) (wins : ℕ → ℕ) (value : Value) → (slot.win ≡ 0 → 0 < slot.left) → (0 < slot.win → value ≡ Win slot.win) →
     (slot.win ≡ 0 → value ≡ Draw) → CellValue (cell_of slot wins) value
 win_value_is slot wins value left some none = elim (cases_eq slot.win 0) [

@@ -10,7 +10,6 @@ least_some zero some = absurd (omega arith)
 least_some (suc win) some = (win, refl, omega arith)
 
 -- ---- values of short cells are short
-
 pub short_value : (cell : Cell) (value : Value) → IsShortCell cell → CellValue cell value → IsShort value
 short_value cell value short is = grind arith
 
@@ -49,7 +48,6 @@ pub greatest_more : (plies : ℕ) (wins : ℕ → ℕ) (greatest : Option ℕ) �
 greatest_more plies wins greatest is = grind (arith, nat_tests)
 
 -- ---- the four rows
-
 pub win_deep : (to plies : ℕ) (slot : CellHead) (wins : ℕ → ℕ) (greatest : Option ℕ) → slot.left ≡ 1 → slot.win ≡ 0 → IsGreatestIn wins greatest →
     65534 ≤ greater_of greatest plies → IsStep to Draw (Win plies) (cell_of slot wins) slot (Err TooDeep)
 win_deep to plies slot wins greatest left win is deep =

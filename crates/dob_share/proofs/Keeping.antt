@@ -75,7 +75,6 @@ greatest_in pool start used None none = none
 greatest_in pool start used (Some plies) is = is
 
 -- ---- one cell is written
-
 wins_same : (old new : List ℕ) (start room plies : ℕ) →
     ((place : ℕ) → start ≤ place → place < start + room → get_or new place vacant ≡ get_or old place vacant) →
     wins_in new start room plies ≡ wins_in old start room plies

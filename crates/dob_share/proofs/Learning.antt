@@ -4,7 +4,6 @@ use Rattle.dob_share.proofs.Common.{KnowsLossWithin, List, Loss, None, Option, S
 use Rattle.dob_share.proofs.Common.{eq-eqb, head_in, inl, inr, is_draw, is_win_in, none_in_empty, refl, subst, sum_by-cons, sym, true, ℕ}
 
 -- ---- what is counted is there, and what is there is counted
-
 pub counted : {X : Type 0} (p : X → Bool) (xs : List X) → 0 < count_by p xs → (x : X) × Contains xs x × (p x ≡ true)
 counted p [] above = absurd (omega arith)
 counted p (x ∷ xs) above = elim (cases_Bool (p x)) [
@@ -26,7 +25,6 @@ pub was_known : (known after : List Value) (was now : Value) → Changes known a
 was_known known after was now change = subst (λ xs. Contains xs was) (sym change.known_is) (in_middle change.before change.behind was)
 
 -- ---- the next item fits
-
 least_within : (known : List Value) (least : Option ℕ) (plies : ℕ) → IsLeastLoss known least → Contains known (Loss plies) → KnowsLossWithin plies least
 least_within known None plies is there = absurd (is plies there)
 least_within known (Some least) plies is there = is.1 plies there

@@ -260,7 +260,6 @@ module _ (share : Share) (listed : ℕ → Opening) (entries : ℕ) (opened : Is
   }
 
 -- ---- whose openings are listed
-
 pub placed_itself : (openings : List Opening) (n id : ℕ) → ArePlaced openings n id openings n id
 placed_itself openings n id = record { places = λ place. (λ low. low, λ low. low); each = λ place low. refl }
 

@@ -287,7 +287,6 @@ seen_kept old new id_same n_same same starts class (Some seen) is = (
 )
 
 -- ---- the values of own classes are short
-
 short_where : (b : ℕ) (cell : Cell) → b < 2 → (b ≡ 1 → IsShortCell cell) → IsShortCell (cell_where b cell)
 short_where b cell low short = grind arith
 

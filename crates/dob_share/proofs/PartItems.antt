@@ -1,15 +1,14 @@
 -- The items of parts, of which only the classes are listed that they are for.
-use Rattle.std.proofs.Common.{◌++◌, ◌+◌, ◌<◌, ◌∙◌, ◌∷◌, ◌≡◌, ◌≤◌, List, [], ap, arith, drop, get_or, length, refl, subst, suc, sym, take, zero, ℕ}
-use Rattle.std.proofs.lemmas.List.{append_assoc, get_or_append_left, get_or-append-add, get_or-drop, get_or_default, length-append, length-drop, length-map, length-take-le}
+use Rattle.std.proofs.Common.{◌++◌, ◌+◌, ◌<◌, ◌∙◌, ◌∷◌, ◌≡◌, ◌≤◌, List, [], ap, arith, drop, get_or, length, refl, suc, sym, take, zero, ℕ}
+use Rattle.std.proofs.lemmas.List.{get_or_append_left, get_or-append-add, get_or-drop, get_or-take, length-append, length-drop, length-map, length-take-le}
 use Rattle.std.proofs.lemmas.List.{map-append, take-append-drop}
 use Rattle.std.specs.Prelude.{map}
 use Rattle.dob_share.specs.declared.news.Item.{Item}
-use Rattle.dob_share.specs.declared.news.Part.{Part}
 use Rattle.dob_share.specs.declared.news.Settlement.{Settlement}
-use Rattle.dob_share.specs.Items.{item_for, items_in_all, items_of_parts, target_of}
+use Rattle.dob_share.specs.Items.{item_for, items_in_all, items_of_parts, target_of, PartView}
 
 -- there are as many as the parts say
-pub items_of_parts-length : (parts : List Part) (classes : List ℕ) → items_in_all parts ≤ length classes → length (items_of_parts parts classes) ≡ items_in_all parts
+pub items_of_parts-length : (parts : List PartView) (classes : List ℕ) → items_in_all parts ≤ length classes → length (items_of_parts parts classes) ≡ items_in_all parts
 items_of_parts-length [] classes within = refl
 items_of_parts-length (part ∷ parts) classes within =
     omega (
@@ -26,7 +25,7 @@ targets_of_items s [] = refl
 targets_of_items s (class ∷ classes) = ap (λ (xs : List ℕ). class ∷ xs) (targets_of_items s classes)
 
 -- those of the parts' items are those that are listed
-pub targets_of_parts : (parts : List Part) (classes : List ℕ) → items_in_all parts ≡ length classes → map target_of (items_of_parts parts classes) ≡ classes
+pub targets_of_parts : (parts : List PartView) (classes : List ℕ) → items_in_all parts ≡ length classes → map target_of (items_of_parts parts classes) ≡ classes
 targets_of_parts [] [] all = refl
 targets_of_parts [] (class ∷ classes) all = absurd (omega (arith, all))
 targets_of_parts (part ∷ parts) classes all =
@@ -38,41 +37,35 @@ targets_of_parts (part ∷ parts) classes all =
     ∙ take-append-drop part.items classes
 
 -- ---- one item of a part
-
 get_or-map : (s : Settlement) (classes : List ℕ) (k class : ℕ) (item : Item) → k < length classes → get_or (map (item_for s) classes) k item ≡ item_for s (get_or classes k class)
 get_or-map s [] k class item within = absurd (omega (arith, within))
 get_or-map s (first ∷ classes) zero class item within = refl
 get_or-map s (first ∷ classes) (suc k) class item within = get_or-map s classes k class item (omega (arith, within))
 
-get_or-take : (m k : ℕ) (classes : List ℕ) (class : ℕ) → k < m → m ≤ length classes → get_or (take m classes) k class ≡ get_or classes k class
-get_or-take m k classes class low within =
-    sym (get_or_append_left (take m classes) (drop m classes) class k (omega (arith, low, length-take-le m classes within)))
-    ∙ ap (λ (xs : List ℕ). get_or xs k class) (take-append-drop m classes)
-
 -- the parts before one, with its own items, have no more than all
-pub parts_before : (parts : List Part) (k : ℕ) (part : Part) → k < length parts → part ≡ get_or parts k part →
+pub parts_before : (parts : List PartView) (k : ℕ) (part : PartView) → k < length parts → part ≡ get_or parts k part →
     items_in_all (take k parts) + part.items ≤ items_in_all parts
 parts_before [] k part there read = absurd (omega (arith, there))
-parts_before (first ∷ parts) zero part there read = let same = ap (λ (p : Part). p.items) read in omega (arith, same)
+parts_before (first ∷ parts) zero part there read = let same = ap (λ (p : PartView). p.items) read in omega (arith, same)
 parts_before (first ∷ parts) (suc k) part there read = let later = parts_before parts k part (omega (arith, there)) read in omega (arith, later)
 
 -- one part more has its own items
-pub parts_more : (parts : List Part) (k : ℕ) (part : Part) → k < length parts → part ≡ get_or parts k part →
+pub parts_more : (parts : List PartView) (k : ℕ) (part : PartView) → k < length parts → part ≡ get_or parts k part →
     items_in_all (take (k + 1) parts) ≡ items_in_all (take k parts) + part.items
 parts_more [] k part there read = absurd (omega (arith, there))
-parts_more (first ∷ parts) zero part there read = let same = ap (λ (p : Part). p.items) read in omega (arith, same)
+parts_more (first ∷ parts) zero part there read = let same = ap (λ (p : PartView). p.items) read in omega (arith, same)
 parts_more (first ∷ parts) (suc k) part there read =
     let later = parts_more parts k part (omega (arith, there)) read in
     let next : suc k + 1 ≡ suc (k + 1) = omega arith in
     ap (λ (m : ℕ). items_in_all (take m (first ∷ parts))) next ∙ omega (arith, later)
 
 -- an item of a part is its settlement's, for the class at its place
-pub part_item : (parts : List Part) (classes : List ℕ) (k index place : ℕ) (part : Part) (class : ℕ) (item : Item) → k < length parts → part ≡ get_or parts k part →
+pub part_item : (parts : List PartView) (classes : List ℕ) (k index place : ℕ) (part : PartView) (class : ℕ) (item : Item) → k < length parts → part ≡ get_or parts k part →
     index < part.items → items_in_all parts ≤ length classes → place ≡ items_in_all (take k parts) + index → class ≡ get_or classes place class →
     get_or (items_of_parts parts classes) place item ≡ item_for part.settlement class
 part_item [] classes k index place part class item there read low within place_is class_is = absurd (omega (arith, there))
 part_item (first ∷ parts) classes zero index place part class item there read low within place_is class_is =
-    let same = ap (λ (p : Part). p.items) read in
+    let same = ap (λ (p : PartView). p.items) read in
     let rest = items_of_parts parts (drop first.items classes) in
     let own = map (item_for first.settlement) (take first.items classes) in
     let fits : first.items ≤ length classes = omega (arith, within) in
@@ -81,8 +74,8 @@ part_item (first ∷ parts) classes zero index place part class item there read 
     let many : length own ≡ length (take first.items classes) = length-map (take first.items classes) (item_for first.settlement) in
     get_or_append_left own rest item place (omega (arith, many, inside))
     ∙ get_or-map first.settlement (take first.items classes) place class item inside
-    ∙ ap (λ (c : ℕ). item_for first.settlement c) (get_or-take first.items place classes class (omega (arith, place_is, low, same)) fits ∙ sym class_is)
-    ∙ ap (λ (p : Part). item_for p.settlement class) (sym read)
+    ∙ ap (λ (c : ℕ). item_for first.settlement c) (get_or-take first.items classes place class (omega (arith, place_is, low, same)) ∙ sym class_is)
+    ∙ ap (λ (p : PartView). item_for p.settlement class) (sym read)
 part_item (first ∷ parts) classes (suc k) index place part class item there read low within place_is class_is =
     let own = map (item_for first.settlement) (take first.items classes) in
     let rest = items_of_parts parts (drop first.items classes) in

@@ -6,7 +6,6 @@ use Rattle.dob_share.proofs.Common.{changed, cond, cons_cases, count_by, inl, in
 use Rattle.dob_share.proofs.Common.{sum_by-cons, sym, ℕ}
 
 -- ---- counts and members before and after
-
 count_middle : (p : Value → Bool) (xs ys : List Value) (x : Value) → count_by p (xs ++ x ∷ ys) ≡ count_by p xs + (cond (p x) 1 0 + count_by p ys)
 count_middle p xs ys x =
     sum_by-append (λ v. cond (p v) 1 0) xs (x ∷ ys) ∙ ap (λ m. count_by p xs + m) (sum_by-cons (λ v. cond (p v) 1 0) x ys)

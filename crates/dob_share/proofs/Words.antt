@@ -12,7 +12,6 @@ use Rattle.std.proofs.Math.Seq.{get_or-append_seam}
 use Rattle.dob_share.specs.Statuses.{status_of_bits, no_word}
 
 -- ---- bits
-
 ones_small : (b : ℕ) → b < 2 → ones b ≡ b
 unfolding ones
 ones_small zero low = refl
@@ -32,7 +31,6 @@ ones_below word (suc place) =
     omega arith
 
 -- ---- a digit written above a word
-
 one_place : (place : ℕ) → 1 * 2 ^ place ≡ 2 ^ place
 one_place place = omega arith
 
@@ -66,7 +64,6 @@ pub digit_low : (word place digit : ℕ) → digit < 2 → word < 2 ^ place → 
 digit_low word place digit small low = grind (arith, common_steps)
 
 -- ---- the status by three bits
-
 pub by_bits : (a b c x y z : ℕ) → a ≡ x → b ≡ y → c ≡ z → status_of_bits a b c ≡ status_of_bits x y z
 by_bits a b c x y z p q r = rw (p, q, r) refl
 

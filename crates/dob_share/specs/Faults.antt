@@ -2,7 +2,7 @@
 use Rattle.std.specs.Prelude.{List, ℕ, ◌++◌, codes}
 use Rattle.std.specs.Fmt.{decimal}
 use Rattle.dob_distance.specs.Faults as value_texts
-use Rattle.dob_distance.specs.declared.fault.Fault.TheVariants as value
+use Rattle.dob_distance.specs.declared.fault.ValueFault.TheVariants as value
 use Rattle.dob_share.specs.declared.fault.Fault.{Fault}
 use Rattle.dob_share.specs.declared.fault.Fault.TheVariants.{TooDeep, Contradiction}
 

@@ -4,8 +4,12 @@ use Rattle.std.specs.Prelude.{ℕ, ◌+◌, ◌<◌, ◌==◌, List, [], ◌∷�
 use Rattle.std.specs.List.{filter}
 use Rattle.dob_share.specs.declared.news.Settlement.{Settlement}
 use Rattle.dob_share.specs.declared.news.Item.{Item}
-use Rattle.dob_share.specs.declared.news.Part.{Part}
 use Rattle.dob_share.specs.Owners.{owner_of}
+
+-- so many items of a settlement
+pub record PartView : Type 0 where
+  pub settlement : Settlement
+  pub items : ℕ
 
 -- what a settlement says to one class
 abbrev pub item_for : Settlement → ℕ → Item
@@ -25,15 +29,15 @@ abbrev pub target_of : Item → ℕ
 target_of item = item.to
 
 -- the part has an item
-abbrev pub HasItem : Part → Type 0
+abbrev pub HasItem : PartView → Type 0
 HasItem part = 0 < part.items
 
 -- how many items there are in all
-abbrev pub items_in_all : List Part → ℕ
+abbrev pub items_in_all : List PartView → ℕ
 items_in_all [] = 0
 items_in_all (part ∷ parts) = part.items + items_in_all parts
 
 -- the items of the parts, where the classes that they are for are listed one part after the other
-abbrev pub items_of_parts : List Part → List ℕ → List Item
+abbrev pub items_of_parts : List PartView → List ℕ → List Item
 items_of_parts [] classes = []
 items_of_parts (part ∷ parts) classes = map (item_for part.settlement) (take part.items classes) ++ items_of_parts parts (drop part.items classes)

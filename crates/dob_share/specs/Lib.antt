@@ -10,3 +10,5 @@ pub mod Shares
 pub mod Faults
 pub mod Laws
 pub mod Items
+pub mod Causes
+pub mod BuildFaults

@@ -20,7 +20,7 @@ impl fmt::Display for Fault {
 
     fn fmt<W: fmt::Write>(&self, f: &mut fmt::Formatter<W>) -> fmt::Result {
         match self {
-            Fault::TooDeep => write!(f, "{}", dob_distance::Fault::TooDeep),
+            Fault::TooDeep => write!(f, "{}", dob_distance::ValueFault::TooDeep),
             Fault::Contradiction(class) => write!(f, "E13 Contradiction class {class}"),
         }
     }

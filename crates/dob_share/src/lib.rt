@@ -1,4 +1,5 @@
-// The cells of one owner's classes: what the settlements of other classes, item by item, make of their values.
+// The cells of one owner's classes: what the settlements of other classes, item by item, make of their values. And why a node stops, and why a build gives
+// nothing (`Cause`, `BuildFault`): below the nodes, so that a crate which only prints it need not wait for them.
 //
 // Choices:
 // - A `Share` shows its classes by functions (`cell_at`, `status_at`), since the value of a model can't be a function. More than 2^32 moves or classes in
@@ -15,6 +16,8 @@
 // - A settlement's number is its place in its node's history. A share's lists have segments as long as those of its openings.
 #![tactic(auto)]
 
+mod build_fault;
+mod cause;
 mod cells;
 mod fault;
 pub mod laws;
@@ -26,6 +29,8 @@ mod share;
 mod statuses;
 mod steps;
 
+pub use build_fault::BuildFault;
+pub use cause::{Cause, Stopped};
 pub use fault::Fault;
 pub use listed::opening_at;
 pub use news::{Item, Part, Settlement, item_for};

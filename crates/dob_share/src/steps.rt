@@ -14,7 +14,6 @@ use crate::share::Seen;
 use dob_distance::{MAX_DISTANCE, Value};
 use dob_lists::Segments;
 
-/// The value of the cell.
 pub(crate) fn value_in(pool: &Segments<u16>, slot: CellHead) -> Value
     requires within { slot.start + slot.used ≤ length pool.now }
     requires short { IsShortCell (cell_by slot pool.now) }

@@ -22,6 +22,8 @@ pub record ShelfState : Type 1 where
   pub made : List ℕ
   -- the bytes that standard input still has, where they are known
   pub input : Option (List ℕ)
+  -- whether the next line of standard input is at hand, so that nobody waits for it
+  pub has_line : Bool
 
 -- what was known of it, and what is known after
 pub record ShelfChange : Type 1 where

@@ -1,5 +1,6 @@
 // The files that the system has, each written beside its name and put there when it is whole, and the standard input that it gives.
-ghost use Rattle.std.specs.Prelude.{◌≡◌, None, OnOk, false, string_bytes};
+ghost use Rattle.std.specs.Prelude.{◌≡◌, ◌==◌, None, OnOk, drop, false, string_bytes};
+ghost use Rattle.std.specs.List.{list_any};
 
 use crate::line_reader::LineReader;
 use crate::said::{Device, ErrorRecorder, LastError};
@@ -116,7 +117,6 @@ impl<'a, R: Files, I> DiskShelf<'a, R, I>
 where
     R::File: Claim,
 {
-    // The file of that name.
     fn open(&mut self, name: &str) -> Result<ErrorRecorder<'a, R::File>, ShelfFault>
         ensures failed { self.new.has_failed ≡ self.old.has_failed }
         ensures made { self.new.made ≡ self.old.made }
@@ -264,6 +264,22 @@ where
         done
     }
 
+    // Where the name leads: a device of the system, and a number on it. `None` where nothing is there.
+    fn place_of(&self, name: &str) -> Option<(u64, u64)> {
+        match fs::metadata(self.rt, name) {
+            Ok(found) => Some((found.dev(), found.ino())),
+            Err(_) => None,
+        }
+    }
+
+    // Whether both names lead to one place.
+    fn is_one_place(&self, name: &str, other: &str) -> bool {
+        match (self.place_of(name), self.place_of(other)) {
+            (Some(place), Some(another)) => place == another,
+            _ => false,
+        }
+    }
+
     // Takes the part away, where it is still that file's.
     fn take_away(&self, file: &R::File, part: &str) {
         if let Ok(true) = self.is_own(file, part) {
@@ -295,6 +311,7 @@ where
       has_failed = shelf.has_failed;
       made = string_bytes shelf.made.value;
       input = None;
+      has_line = list_any (λ b. b == 10) (drop shelf.input.given shelf.input.read.items);
     } };
 
     fn find(&mut self, name: &str) -> Result<Std<ErrorRecorder<'a, R::File>>, ShelfFault> {
@@ -349,6 +366,18 @@ where
 
     fn has_line(&self) -> bool {
         self.input.has_line()
+    }
+
+    fn is_same_file(&self, name: &str, other: &str) -> bool {
+        name == other || self.is_one_place(name, other)
+    }
+
+    fn is_stream(&self, name: &str) -> bool {
+        // What goes to /dev/null is lost anyhow.
+        !self.is_one_place(name, "/dev/null")
+            && (self.is_one_place(name, "/dev/stdin")
+                || self.is_one_place(name, "/dev/stdout")
+                || self.is_one_place(name, "/dev/stderr"))
     }
 
     fn said(&self, alloc: Global) -> Result<Option<String>, AllocError> {

@@ -1,5 +1,5 @@
-// All the bytes of a source.
-ghost use Rattle.std.specs.Prelude.{◌≡◌, ◌||◌, List, ℕ, MatchResult};
+// The bytes of a source, as many as are wanted.
+ghost use Rattle.std.specs.Prelude.{◌≡◌, ◌⊎◌, ◌<◌, ◌||◌, List, ℕ, MatchResult, length, take};
 ghost use Rattle.dob_device.specs.Devices.{whole};
 ghost use Rattle.dob_shelf.specs.Shelves.{is_failed};
 
@@ -10,19 +10,24 @@ use std::alloc::Global;
 // How many bytes are asked for at once.
 const ROOM: usize = 4096;
 
-/// The bytes that the source still has, all of them up to its end, which may be none.
+/// The bytes that the source still has, up to its end, which may be none; or, where they are more than `most`, the first of them, more than `most` too.
 ///
 /// # Errors
 ///
-/// The source failed before its end; or memory for the bytes was refused.
-pub fn read_all<R: Source>(alloc: Global, source: &mut R) -> Result<Vec<u8>, ShelfFault>
+/// The source failed before that; or memory for the bytes was refused.
+pub fn read_up_to<R: Source>(
+    alloc: Global,
+    source: &mut R,
+    most: u64,
+) -> Result<Vec<u8>, ShelfFault>
     ensures given { (bytes : List ℕ) → R.gives source.old (whole bytes)
-        → MatchResult result (λ read. read.items ≡ bytes) (λ fault. fault ≡ ShelfFault.Memory) }
+        → MatchResult result (λ read. (read.items ≡ bytes) ⊎ ((most < length read.items) × (read.items ≡ take (length read.items) bytes)))
+        (λ fault. fault ≡ ShelfFault.Memory) }
     ensures failed { R.has_failed source.new ≡ (R.has_failed source.old || is_failed result) }
 {
     let mut bytes = Vec::new(alloc);
     let mut room = [0; ROOM];
-    loop {
+    while bytes.len() as u64 <= most {
         let count = match source.read(&mut room) {
             Ok(count) => count,
             Err(Failed) => return Err(ShelfFault::Failed),
@@ -32,4 +37,5 @@ pub fn read_all<R: Source>(alloc: Global, source: &mut R) -> Result<Vec<u8>, She
         }
         bytes.extend_from_slice(&room[..count])?;
     }
+    Ok(bytes)
 }

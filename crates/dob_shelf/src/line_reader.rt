@@ -1,5 +1,6 @@
 // The lines of a source, one after the other.
-ghost use Rattle.std.specs.Prelude.{◌≡◌, ◌≤◌, ◌<◌, ◌||◌, ◌++◌, ◌↔◌, List, ℕ, [], Some, false, true, Contains, IfOk, IsTrue, MatchResult, drop, length};
+ghost use Rattle.std.specs.Prelude.{◌≡◌, ◌==◌, ◌≤◌, ◌<◌, ◌||◌, ◌++◌, List, ℕ, [], Some, false, true, IfOk, MatchResult, drop, length};
+ghost use Rattle.std.specs.List.{list_any};
 ghost use Rattle.dob_device.specs.Devices.{whole};
 ghost use Rattle.dob_shelf.specs.Shelves.{TakesLine, TakesRead, is_failed};
 ghost use Rattle.std.specs.Str.Lines.{strip_carriage_return};
@@ -37,7 +38,7 @@ impl<R> LineReader<R> {
 
     /// Whether the next line was read whole, and doesn't have to be waited for.
     pub fn has_line(&self) -> bool
-        ensures { IsTrue result ↔ Contains (drop self.now.given self.now.read.items) 10 }
+        ensures { result ≡ list_any (λ b. b == 10) (drop self.now.given self.now.read.items) }
     {
         self.left().contains(&b'\n')
     }

@@ -107,7 +107,7 @@ impl<T: OpenFile> ErrorRecorder<'_, T> {
     }
 }
 
-// The same, unheard.
+// Empties the file, where it is one and no device.
 fn clear_file(file: &impl OpenFile) -> io::Result<()> {
     if file.metadata()?.is_file() {
         file.set_len(0)

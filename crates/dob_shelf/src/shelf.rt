@@ -1,5 +1,5 @@
 // Where the program finds and keeps database files.
-ghost use Rattle.std.specs.Prelude.{◌≡◌, ◌||◌, ℕ, List, [], None, Some, false, true, IfErr, IfOk, MatchResult, OnErr, OnOk, IsTrue, string_bytes};
+ghost use Rattle.std.specs.Prelude.{◌≡◌, ◌==◌, ◌||◌, ℕ, List, [], None, Some, false, true, IfErr, IfOk, MatchResult, OnErr, OnOk, IsTrue, length, not, string_bytes};
 ghost use Rattle.dob_device.specs.Devices.{whole};
 ghost use Rattle.dob_shelf.specs.Shelves.{HasJust, SameFiles, SameOthers, ShelfState, TakesLine, bytes_in, is_failed};
 
@@ -60,8 +60,8 @@ pub trait Shelf {
     /// What the bytes of a new file are written to. It is given back too, by `keep` or `discard`.
     type Dst: Sink;
 
-    // What is known of it: the bytes of its files, those that standard input still has, the name of the file that was made last, and whether
-    // some call of it has failed, or of a source or a sink that it got back.
+    // What is known of it: the bytes of its files, those that standard input still has, whether a line of these is at hand, the name of the file that
+    // was made last, and whether some call of it has failed, or of a source or a sink that it got back.
     ghost state: { Self → ShelfState };
 
     /// A source of the bytes of the file of that name, from the first on. The files keep their bytes.
@@ -140,8 +140,18 @@ pub trait Shelf {
         ensures made { (state self.new).made ≡ (state self.old).made }
         ensures failed { (state self.new).has_failed ≡ ((state self.old).has_failed || is_failed result) };
 
-    /// Whether the next line of standard input is at hand, so that `next_line` doesn't wait for it. Nothing is promised of that.
-    fn has_line(&self) -> bool;
+    /// Whether the next line of standard input is at hand, so that `next_line` doesn't wait for it.
+    fn has_line(&self) -> bool
+        ensures { result ≡ (state self.now).has_line };
+
+    /// Whether both names lead to one file, however they are spelled.
+    fn is_same_file(&self, name: &str, other: &str) -> bool
+        ensures same { name.now ≡ other.now → result ≡ true }
+        ensures known { IsTrue (state self.now).tells → result ≡ true → name.now ≡ other.now };
+
+    /// Whether the name leads to where one of the program's own streams does, however it is spelled.
+    fn is_stream(&self, name: &str) -> bool
+        ensures known { IsTrue (state self.now).tells → result ≡ false };
 
     /// What the device said that failed last, as text: which one it is, and why it failed. `None` if that isn't known. Nothing is promised of
     /// what a device says.
@@ -225,6 +235,7 @@ impl Shelf for MemShelf {
       has_failed = shelf.has_failed;
       made = string_bytes shelf.made;
       input = Some shelf.input.items;
+      has_line = not (length shelf.input.items == 0);
     } };
 
     fn find(&mut self, name: &str) -> Result<MemSource, ShelfFault> {
@@ -266,6 +277,14 @@ impl Shelf for MemShelf {
 
     fn has_line(&self) -> bool {
         !self.input.is_empty()
+    }
+
+    fn is_same_file(&self, name: &str, other: &str) -> bool {
+        name == other
+    }
+
+    fn is_stream(&self, _name: &str) -> bool {
+        false
     }
 
     fn said(&self, _alloc: Global) -> Result<Option<String>, AllocError> {

@@ -40,7 +40,6 @@ fn back(side: u64, steps: u64, number: u64) -> u64
     (number + (side - steps % side)) % side
 }
 
-/// One round.
 pub(crate) fn round(side: u64, key: u64, cell: Cell) -> Cell
     requires row { cell.row < side }
     requires column { cell.column < side }
@@ -81,7 +80,6 @@ pub(crate) fn cell_of(side: u64, number: u64) -> Cell
     }
 }
 
-/// The number of a cell.
 pub(crate) fn number_of(side: u64, cell: Cell) -> u64
     requires row { cell.row < side }
     requires column { cell.column < side }

@@ -1,5 +1,5 @@
 -- The faults of reading a file, of making the other one and of keeping it are those of migrating.
-use Rattle.dob_survey.proofs.Common.{◌≡◌, AreMigrateLines, AreThese, Bool, ClassTable, Fault, HasJust, IsFileOf, IsFillingFault, IsMigrateFault, IsTrue}
+use Rattle.dob_survey.proofs.Common.{◌≡◌, AreMigrateLines, AreThese, Bool, ClassTable, ProgramFault, HasJust, IsFileOf, IsFillingFault, IsMigrateFault, IsTrue}
 use Rattle.dob_survey.proofs.Common.{LeavesFiles, List, SameFiles, ShelfChange, ShelfState, String, codes, count_line, inl, inr, length, string_bytes, subst}
 use Rattle.dob_survey.proofs.Common.{sym, ℕ}
 use Rattle.dob_dbfile.specs.Format.{bytes_of as table_bytes}
@@ -7,7 +7,8 @@ use Rattle.dob_files.proofs.Kept.{AreKept, same_chain}
 
 -- after the table was read and the other file made, which changed no file
 pub keeping_migrates : (c : ShelfChange) (file : List ℕ) (mid : ShelfState) (table : ClassTable) → IsFileOf (c.before.has file) table
-    → SameFiles c.before.has mid.has → (fault : Fault) → LeavesFiles (record c { before = mid }) (IsFillingFault table) fault → IsMigrateFault c file fault
+    → SameFiles c.before.has mid.has → (fault : ProgramFault) → LeavesFiles (record c { before = mid }) (IsFillingFault table) fault
+    → IsMigrateFault c file fault
 keeping_migrates c file mid table read same fault holds = (
   elim holds.0 [
     | inl unfilled ↦ inl (inr (table, read, unfilled))

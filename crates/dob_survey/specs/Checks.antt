@@ -2,8 +2,8 @@
 use Rattle.std.specs.Prelude.{◌++◌, ◌∷◌, ◌≡◌, List, [], codes, ℕ}
 use Rattle.dob_files.specs.Owed.{Owed, file_owed}
 use Rattle.dob_files.specs.Tables.{HasFileFault, IsFileOf, IsShut}
-use Rattle.dob_files.specs.declared.fault.Fault.{Fault}
-use Rattle.dob_files.specs.declared.fault.Fault.TheVariants.{File, Io, Memory, Table}
+use Rattle.dob_files.specs.declared.fault.ProgramFault.{ProgramFault}
+use Rattle.dob_files.specs.declared.fault.ProgramFault.TheVariants.{File, Io, Memory, Table}
 use Rattle.dob_pieces.specs.Bytes.{line_feed}
 use Rattle.dob_probe.specs.Checks.{IsFirstBroken}
 use Rattle.dob_value.specs.Follows.{ClassTable, IsValueTable}
@@ -21,7 +21,7 @@ pub record IsCheckLine (Has : List ℕ → Type 0) (lines : List ℕ) : Type 0 w
   pub same : lines ≡ consistent_line
 
 -- a fault of checking a file: the file's, or the table's, which takes no memory; or memory failed where the file is read, or it couldn't be opened
-abbrev pub IsCheckFault : (List ℕ → Type 0) → Fault → Type 0
+abbrev pub IsCheckFault : (List ℕ → Type 0) → ProgramFault → Type 0
 IsCheckFault Has (File fault) = HasFileFault Has fault
 IsCheckFault Has (Table (table_fault.Inconsistent class)) = (table : ClassTable) × IsFileOf Has table × IsFirstBroken table class
 IsCheckFault Has Memory = Unit {0}

@@ -2,7 +2,7 @@
 use Rattle.std.specs.Prelude.{◌≡◌, ◌⊎◌, ℕ, IsTrue, List, codes, length}
 use Rattle.dob_value.specs.Follows.{ClassTable}
 use Rattle.dob_dbfile.specs.Format.{bytes_of}
-use Rattle.dob_files.specs.declared.fault.Fault.{Fault}
+use Rattle.dob_files.specs.declared.fault.ProgramFault.{ProgramFault}
 use Rattle.dob_shelf.specs.Shelves.{HasJust, SameOthers, ShelfChange}
 use Rattle.dob_lines.specs.Tallies.{count_line}
 use Rattle.dob_files.specs.Keeping.{IsFillingFault, LeavesFiles}
@@ -18,12 +18,12 @@ pub record AreMigrateLines (c : ShelfChange) (file out lines : List ℕ) : Type 
   pub same : lines ≡ count_line (codes "classes ") (length table.values)
 
 -- a fault of writing the file's table anew
-abbrev pub IsRewritingFault : (List ℕ → Type 0) → Fault → Type 0
+abbrev pub IsRewritingFault : (List ℕ → Type 0) → ProgramFault → Type 0
 IsRewritingFault Has fault = (table : ClassTable) × IsFileOf Has table × IsFillingFault table fault
 
 -- The fault of migrating: the file couldn't be opened, or it has that fault, or its table isn't written, or the other one is neither made nor kept.
 -- Each file has what it had.
-abbrev pub IsMigrateFault : ShelfChange → List ℕ → Fault → Type 0
+abbrev pub IsMigrateFault : ShelfChange → List ℕ → ProgramFault → Type 0
 IsMigrateFault c file = LeavesFiles c (λ fault. IsOpeningFault (c.before.has file) fault ⊎ IsRewritingFault (c.before.has file) fault)
 
 abbrev pub migrate_owed : List ℕ → List ℕ → Owed

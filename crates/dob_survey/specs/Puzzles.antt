@@ -13,8 +13,8 @@ use Rattle.dob_probe.specs.declared.puzzles.Puzzle.{Puzzle}
 use Rattle.dob_probe.specs.Puzzles.{ArePuzzles}
 use Rattle.dob_probe.specs.declared.walks.ClassOrder.{ClassOrder}
 use Rattle.dob_words.specs.declared.command.orders.PuzzleSearch.{PuzzleSearch}
-use Rattle.dob_files.specs.declared.fault.Fault.{Fault}
-use Rattle.dob_files.specs.declared.fault.Fault.TheVariants.{PuzzlePlies, Memory}
+use Rattle.dob_files.specs.declared.fault.ProgramFault.{ProgramFault}
+use Rattle.dob_files.specs.declared.fault.ProgramFault.TheVariants.{PuzzlePlies, Memory}
 use Rattle.dob_files.specs.Owed.{Owed, table_owed}
 use Rattle.dob_files.specs.Tables.{IsOpeningFault}
 
@@ -53,7 +53,7 @@ pub record ArePuzzleLines (search : PuzzleSearch) (table : ClassTable) (lines : 
 
 -- A fault of asking for puzzles: no puzzle has so many plies, which comes before the file is looked for; or one of opening the file, or
 -- memory failed.
-abbrev pub IsPuzzlesFault : (List ℕ → Type 0) → ℕ → Fault → Type 0
+abbrev pub IsPuzzlesFault : (List ℕ → Type 0) → ℕ → ProgramFault → Type 0
 IsPuzzlesFault Has plies PuzzlePlies = ¬ IsPuzzleLength plies
 IsPuzzlesFault Has plies Memory = Unit {0}
 IsPuzzlesFault Has plies fault = IsPuzzleLength plies × IsOpeningFault Has fault

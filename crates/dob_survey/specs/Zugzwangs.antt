@@ -70,6 +70,5 @@ abbrev pub AreOfTable : ClassTable → List Zugzwang → Type 0
 AreOfTable table pairs = (pair : Zugzwang) → Contains pairs pair → IsOfTable table pair
 
 -- ---- what the program owes
-
 abbrev pub zugzwangs_owed : List ℕ → Option ℕ → Owed
 zugzwangs_owed file listed = table_owed file (AreZugzwangLines listed) IsOpeningFault

@@ -5,7 +5,7 @@ ghost use Rattle.dob_probe.specs.Faults.{IsFaultOfCheck};
 ghost use Rattle.dob_survey.specs.Checks.{check_owed, consistent_line};
 ghost use Rattle.dob_files.specs.Owed.{GivesOwed};
 
-use dob_check::check_watched;
+use dob_check::{check, check_watched};
 use dob_files::{Answer, open};
 use dob_lines::{Console, Progress};
 use dob_pieces::Memory;
@@ -48,7 +48,10 @@ fn check_table(
     ensures right { IfOk result (λ _. IsValueTable table.now.family table.now.values) }
     ensures fault { IfErr result (IsFaultOfCheck table.now) }
 {
-    let progress = Progress::new(rt, is_watched, table.class_count());
+    if !is_watched {
+        return check(rt, table);
+    }
+    let progress = Progress::new(rt, true, table.class_count());
     let checked = check_watched(rt, table, &progress);
     progress.end();
     checked

@@ -5,7 +5,7 @@ ghost use Rattle.dob_pieces.specs.Bytes.{line_feed};
 ghost use Rattle.dob_survey.specs.Puzzles.{IsPuzzleLength, line_of_puzzle, puzzle_line, puzzle_lines, puzzle_text, puzzles_owed};
 ghost use Rattle.dob_files.specs.Owed.{GivesOwed};
 
-use dob_files::{Answer, Fault, open};
+use dob_files::{Answer, ProgramFault, open};
 use dob_moves::Move;
 use dob_pieces::{Memory, Position};
 use dob_probe::{ClassOrder, Puzzle, first_puzzles};
@@ -25,7 +25,7 @@ pub fn answer_puzzles<S: Shelf>(
     ensures { GivesOwed (puzzles_owed file.now search) S.state shelf.old shelf.new result }
 {
     if !is_puzzle_length(search.plies) {
-        return Err(Fault::PuzzlePlies);
+        return Err(ProgramFault::PuzzlePlies);
     }
     let table = open(alloc, shelf, file)?;
     let walk = ClassOrder {
@@ -60,7 +60,6 @@ fn puzzle_lines(
     }
 }
 
-// A line for each puzzle.
 fn some_lines(
     alloc: Global,
     table: &Table,
@@ -118,7 +117,6 @@ fn numbered_line(alloc: Global, number: u64, line: &str) -> Result<String, Memor
     Ok(format!(in alloc; "{number}  {line}")?)
 }
 
-// The line of that position and that move.
 fn puzzle_line(alloc: Global, position: &Position, played: Move) -> Result<String, Memory>
     ensures { IfOk result (λ line. string_bytes line ≡ puzzle_line position.now.setup played) }
 {

@@ -100,7 +100,6 @@ fn deepest_line(alloc: Global, table: &Table, deepest: Option<Zugzwang>) -> Resu
     }
 }
 
-// A line for each of the pairs.
 fn pair_lines(alloc: Global, table: &Table, pairs: &[Zugzwang]) -> Result<String, Memory>
     requires { AreOfTable table.now pairs.now }
     ensures { IfOk result (λ lines. string_bytes lines ≡ flat_map (pair_line table.now.family) pairs.now) }
@@ -108,7 +107,6 @@ fn pair_lines(alloc: Global, table: &Table, pairs: &[Zugzwang]) -> Result<String
     joined(alloc, pairs, |pair| pair_line(alloc, table, pair))
 }
 
-// The line of the pair.
 fn pair_line(alloc: Global, table: &Table, pair: Zugzwang) -> Result<String, Memory>
     requires { IsOfTable table.now pair }
     ensures { IfOk result (λ line. string_bytes line ≡ pair_line table.now.family pair) }
@@ -136,7 +134,6 @@ fn three_texts(alloc: Global, text: &str, value: &str, turn_value: &str) -> Resu
     Ok(format!(in alloc; "{text}  {value}  {turn_value}\n")?)
 }
 
-// The words of the value.
 fn value_words(alloc: Global, value: Value) -> Result<String, Memory>
     ensures { IfOk result (λ words. string_bytes words ≡ value_words value) }
 {

@@ -1,7 +1,7 @@
 // How far the lists of a certificate are searched: until they have more entries than they may, and no further. No clause says so, since a longer search
 // gives the same answer.
 use crate::sets::family;
-use dob_certify::{Fault, certify};
+use dob_certify::{MakingFault, certify};
 use dob_check::Watch;
 use dob_pieces::Profile;
 use dob_text::read_position;
@@ -39,6 +39,6 @@ fn lists_end_where_they_are_full(rt: HostRuntime) {
             count: Cell::new(0),
         };
         let made = certify(&rt, alloc, &table, &position, is_exact, most, &rounds);
-        assert!(rt; matches!(made, Err(Fault::TooMany(_))) && rounds.count.get() == wanted);
+        assert!(rt; matches!(made, Err(MakingFault::TooMany(_))) && rounds.count.get() == wanted);
     }
 }

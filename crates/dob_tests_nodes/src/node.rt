@@ -1,20 +1,17 @@
 // Nodes over lions alone, by values known from outside; and lists in short segments, with which the same calls leave a node the values that it has with
 // long ones.
-ghost use Rattle.std.specs.Prelude.{◌≡◌, ◌↔◌, ◌<◌, IsTrue, None};
-ghost use Rattle.std.specs.List.{All};
-ghost use Rattle.dob_history.specs.TakenItems.{HasItemEntries};
+ghost use Rattle.std.specs.Prelude.{◌≡◌, ◌<◌, None};
 ghost use Rattle.dob_node.specs.Nodes.{IsSound};
 
 use crate::outboxes::{add, cut, won};
 use crate::sets::classes_of;
 use dob_classes::Classes;
-use dob_history::have_entries;
-use dob_lawful::opening;
+use dob_history::opening;
 use dob_lists::SegmentLength;
 use dob_node::{Node, Part};
 use dob_safra::NodeCount;
 use dob_share::{Fault, Item};
-use dob_update::{Batch, Outbox};
+use dob_update::Outbox;
 use dob_value::Value;
 use std::alloc::Global;
 use std::process::Abort;
@@ -32,26 +29,18 @@ fn one_of_two<A: Abort>(rt: &A, alloc: Global, classes: &Classes, id: usize) -> 
     Node::open(alloc, &openings, classes.family, id, two).expect(rt, "a node")
 }
 
-// Whether the batch's items have such values as a table can have.
-fn has_entries(batch: &Batch) -> bool
-    ensures { IsTrue result ↔ All HasItemEntries batch.now.items }
-{
-    have_entries(batch.parts())
-}
-
 // Hands the next batch of at most `size` items to the node: how many settlements it has then.
 fn hands_over<A: Abort>(rt: &A, outbox: &mut Outbox, node: &mut Node, size: usize) -> u64
     requires sound { IsSound node.old }
     requires going { node.old.failed ≡ None }
-    requires family { outbox.old.family ≡ node.old.family }
-    requires n { (outbox.old.n ≡ 2) × (node.old.n ≡ 2) }
+    requires family { outbox.old.sends.family ≡ node.old.family }
+    requires n { (outbox.old.sends.n ≡ 2) × (node.old.n ≡ 2) }
     ensures sound { IsSound node.new }
     ensures going { node.new.failed ≡ None }
-    ensures family { (outbox.new.family ≡ outbox.old.family) × (node.new.family ≡ node.old.family) }
-    ensures n { (outbox.new.n ≡ 2) × (node.new.n ≡ 2) }
+    ensures family { (outbox.new.sends.family ≡ outbox.old.sends.family) × (node.new.family ≡ node.old.family) }
+    ensures n { (outbox.new.sends.n ≡ 2) × (node.new.n ≡ 2) }
 {
     let batch = cut(rt, outbox, size);
-    assert!(rt; has_entries(&batch));
     node.apply_batch(&batch).expect(rt, "items that fit");
     node.settled()
 }

@@ -1,5 +1,6 @@
 // What fills the outbox of owner 0 of two for owner 1, in the set of lions alone, and what is cut of it.
 ghost use Rattle.std.specs.Prelude.{◌≡◌};
+ghost use Rattle.dob_distance.specs.Codes.{IsEntry};
 
 use crate::sets::classes_of;
 use dob_classes::Classes;
@@ -11,7 +12,10 @@ use std::alloc::Global;
 use std::process::Abort;
 
 /// The settlement of a class that turns from a draw to a win in 7 plies.
-pub(crate) fn won(number: u64, class: u64) -> Settlement {
+pub(crate) fn won(number: u64, class: u64) -> Settlement
+    ensures was { IsEntry result.was }
+    ensures now { IsEntry result.now }
+{
     Settlement {
         number,
         class,
@@ -28,12 +32,14 @@ pub(crate) fn add(
     outbox: &mut Outbox,
     settlement: Settlement,
 )
-    requires family { outbox.old.family ≡ classes.now.family }
-    requires n { outbox.old.n ≡ 2 }
-    requires to { outbox.old.to ≡ 1 }
-    ensures family { outbox.new.family ≡ classes.now.family }
-    ensures n { outbox.new.n ≡ 2 }
-    ensures to { outbox.new.to ≡ 1 }
+    requires was { IsEntry settlement.was }
+    requires now { IsEntry settlement.now }
+    requires family { outbox.old.sends.family ≡ classes.now.family }
+    requires n { outbox.old.sends.n ≡ 2 }
+    requires to { outbox.old.sends.to ≡ 1 }
+    ensures family { outbox.new.sends.family ≡ classes.now.family }
+    ensures n { outbox.new.sends.n ≡ 2 }
+    ensures to { outbox.new.sends.to ≡ 1 }
 {
     assert!(rt; settlement.class < classes.class_count());
     let predecessors = back(alloc, classes, settlement.class).expect(rt, "memory");
@@ -52,8 +58,8 @@ pub(crate) fn filled(rt: &impl Abort, alloc: Global) -> Outbox {
 
 /// The next batch of at most `size` items.
 pub(crate) fn cut(rt: &impl Abort, outbox: &mut Outbox, size: usize) -> Batch
-    ensures family { (result.family ≡ outbox.old.family) × (outbox.new.family ≡ outbox.old.family) }
-    ensures n { (result.n ≡ outbox.old.n) × (outbox.new.n ≡ outbox.old.n) }
+    ensures family { (result.family ≡ outbox.old.sends.family) × (outbox.new.sends.family ≡ outbox.old.sends.family) }
+    ensures n { (result.n ≡ outbox.old.sends.n) × (outbox.new.sends.n ≡ outbox.old.sends.n) }
 {
     assert!(rt; outbox.cut_count() < 100);
     let size = BatchSize::new(size).expect(rt, "a size");

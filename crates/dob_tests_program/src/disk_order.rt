@@ -1,31 +1,12 @@
-// The calls by which a file comes onto a disk, and their order: what a power cut may leave depends on it, and no clause speaks of it. The
-// files are the system's, with a list of the calls on them; one fails if that is asked for.
+// The calls by which a file comes onto a disk, and their order: what a power cut may leave depends on it, and no clause speaks of it.
+use crate::listed::{DEEP, INNER, LINK, Listed, Log, NAME, OUTER, PART, ROOTED, TARGET, placed};
 use crate::shelves::{has, put, removes};
 use crate::typed::silent;
-use dob_cli::{Claim, DiskShelf, LastError};
-use std::alloc::{Allocator, Global};
-use std::cell::RefCell;
-use std::fs::{self, Metadata, OpenFile, OpenOptions, Permissions};
-use std::io::{self, ErrorKind, Read, Seek, SeekFrom, Write};
+use dob_cli::{Claim, Device, DiskShelf, ErrorRecorder, LastError, Shelf};
+use std::fs;
+use std::io::Read;
 use std::process::Abort;
 use std::rt::Files;
-
-const NAME: &str = "ordered_by_a_test.db";
-
-const PART: &str = "ordered_by_a_test.db.part";
-
-const LINK: &str = "link_of_a_test.db";
-
-const TARGET: &str = "linked_by_a_test.db";
-
-// A file in a folder of another folder.
-const DEEP: &str = "outer_of_a_test/inner_of_a_test/kept.db";
-
-const DEEP_PART: &str = "outer_of_a_test/inner_of_a_test/kept.db.part";
-
-const INNER: &str = "outer_of_a_test/inner_of_a_test";
-
-const OUTER: &str = "outer_of_a_test";
 
 // How a file is made: its part is claimed, and looked for once more, before it is written; its bytes are on the disk before the name is theirs.
 const MADE: &str = "look at name
@@ -65,193 +46,6 @@ ask link
 sync link
 ";
 
-// The calls that were made, a line each. The one that reads so fails.
-#[derive(Drop)]
-struct Log {
-    calls: RefCell<String>,
-    failing: &'static str,
-}
-
-impl Log {
-    fn new(alloc: Global, failing: &'static str) -> Log {
-        Log {
-            calls: RefCell::new(String::new(alloc)),
-            failing,
-        }
-    }
-}
-
-impl Log {
-    // Notes the call, and fails if it is the one that does.
-    fn note(&self, call: &str, path: &'static str) -> io::Result<()> {
-        let Ok(mut calls) = self.calls.try_borrow_mut() else {
-            return Err(ErrorKind::Other.into());
-        };
-        let before = calls.len();
-        let _ = write!(calls, "{call} {path}\n");
-        if calls.get(before..) == Some(self.failing) {
-            Err(ErrorKind::Other.into())
-        } else {
-            Ok(())
-        }
-    }
-
-    // Whether these are the calls that were made, in their order.
-    fn says(&self, calls: &[&str]) -> bool {
-        let Ok(made) = self.calls.try_borrow() else {
-            return false;
-        };
-        let mut left = made.as_bytes();
-        for part in calls {
-            let Some(rest) = left.strip_prefix(part.as_bytes()) else {
-                return false;
-            };
-            left = rest;
-        }
-        left.is_empty()
-    }
-}
-
-// What the list says for a path.
-fn called(path: &str) -> &'static str {
-    match path {
-        NAME | DEEP => "name",
-        PART | DEEP_PART => "part",
-        LINK => "link",
-        "." | INNER => "folder",
-        _ => "another",
-    }
-}
-
-// The files of the system, with a list of the calls on them.
-#[derive(Drop)]
-struct Listed<'a, R> {
-    rt: &'a R,
-    log: &'a Log,
-}
-
-// One of them, by its name in the list.
-#[derive(Drop)]
-struct ListedFile<'a, F> {
-    file: F,
-    path: &'static str,
-    log: &'a Log,
-}
-
-impl<'a, R: Files> Files for Listed<'a, R> {
-    type File = ListedFile<'a, R::File>;
-
-    type Dir = R::Dir;
-
-    fn open_file(&self, how: &OpenOptions, path: &str) -> io::Result<ListedFile<'a, R::File>> {
-        self.log.note("open", called(path))?;
-        let file = self.rt.open_file(how, path)?;
-        Ok(ListedFile {
-            file,
-            path: called(path),
-            log: self.log,
-        })
-    }
-
-    fn open_dir(&self, path: &str) -> io::Result<R::Dir> {
-        self.rt.open_dir(path)
-    }
-
-    fn metadata(&self, path: &str) -> io::Result<Metadata> {
-        self.log.note("look behind", called(path))?;
-        self.rt.metadata(path)
-    }
-
-    fn symlink_metadata(&self, path: &str) -> io::Result<Metadata> {
-        self.log.note("look at", called(path))?;
-        self.rt.symlink_metadata(path)
-    }
-
-    fn copy(&self, from: &str, to: &str) -> io::Result<u64> {
-        self.log.note("copy", called(from))?;
-        self.rt.copy(from, to)
-    }
-
-    fn rename(&self, from: &str, to: &str) -> io::Result<()> {
-        self.log.note("rename", called(from))?;
-        self.rt.rename(from, to)
-    }
-
-    fn remove_file(&self, path: &str) -> io::Result<()> {
-        self.log.note("remove", called(path))?;
-        self.rt.remove_file(path)
-    }
-
-    fn create_dir(&self, path: &str) -> io::Result<()> {
-        self.rt.create_dir(path)
-    }
-
-    fn remove_dir(&self, path: &str) -> io::Result<()> {
-        self.rt.remove_dir(path)
-    }
-
-    fn remove_dir_all<B: Allocator>(&self, alloc: B, path: &str) -> io::Result<()> {
-        self.rt.remove_dir_all(alloc, path)
-    }
-}
-
-impl<F: Read> Read for ListedFile<'_, F> {
-    fn read(&mut self, room: &mut [u8]) -> io::Result<usize> {
-        self.file.read(room)
-    }
-}
-
-impl<F: Write> Write for ListedFile<'_, F> {
-    fn write(&mut self, bytes: &[u8]) -> io::Result<usize> {
-        self.log.note("write", self.path)?;
-        self.file.write(bytes)
-    }
-
-    fn flush(&mut self) -> io::Result<()> {
-        self.log.note("flush", self.path)?;
-        self.file.flush()
-    }
-}
-
-impl<F: Seek> Seek for ListedFile<'_, F> {
-    fn seek(&mut self, to: SeekFrom) -> io::Result<u64> {
-        self.file.seek(to)
-    }
-}
-
-impl<F: OpenFile> OpenFile for ListedFile<'_, F> {
-    fn metadata(&self) -> io::Result<Metadata> {
-        self.log.note("ask", self.path)?;
-        self.file.metadata()
-    }
-
-    fn set_len(&self, size: u64) -> io::Result<()> {
-        self.log.note("cut", self.path)?;
-        self.file.set_len(size)
-    }
-
-    fn sync_all(&self) -> io::Result<()> {
-        self.log.note("sync", self.path)?;
-        self.file.sync_all()
-    }
-
-    fn set_permissions(&self, permissions: Permissions) -> io::Result<()> {
-        self.file.set_permissions(permissions)
-    }
-
-    fn sync_data(&self) -> io::Result<()> {
-        self.log.note("sync the bytes of", self.path)?;
-        self.file.sync_data()
-    }
-}
-
-impl<F: Claim> Claim for ListedFile<'_, F> {
-    fn claim(&self) -> io::Result<()> {
-        self.log.note("claim", self.path)?;
-        self.file.claim()
-    }
-}
-
 // Puts the bytes under the name; that one of the calls fails; the calls that were made are these. Whether the shelf kept them.
 fn puts<R: Abort + Files + AllocGlobal>(
     rt: &R,
@@ -264,7 +58,21 @@ where
     R::File: Claim,
 {
     let log = Log::new(rt.alloc(), failing);
-    let files = Listed { rt, log: &log };
+    puts_noted(rt, name, bytes, &log, calls)
+}
+
+// The same with that list of calls.
+fn puts_noted<R: Abort + Files + AllocGlobal>(
+    rt: &R,
+    name: &str,
+    bytes: &[u8],
+    log: &Log,
+    calls: &[&str],
+) -> bool
+where
+    R::File: Claim,
+{
+    let files = Listed { rt, log };
     let note = LastError::new();
     let mut shelf = DiskShelf::new(&files, rt.alloc(), silent(), &note);
     let kept = put(&mut shelf, name, bytes);
@@ -316,6 +124,42 @@ fn the_folder_of_the_name(rt: HostRuntime) {
     assert!(rt; puts(&rt, DEEP, b"deep", "", &[MADE, NAMED]) && stands(&rt, DEEP, b"deep"));
     removes(&rt, DEEP);
     assert!(rt; fs::remove_dir(&rt, INNER).is_ok() && fs::remove_dir(&rt, OUTER).is_ok());
+}
+
+// The folder of a name in the folder of all folders is that one.
+#[test]
+fn the_folder_of_all_folders(rt: HostRuntime) {
+    let calls = [MADE, "rename part\nopen root\nsync root\n"];
+    assert!(rt; puts(&rt, ROOTED, b"rooted", "", &calls) && stands(&rt, placed(ROOTED), b"rooted"));
+    removes(&rt, placed(ROOTED));
+}
+
+// A part that another run put in place of this one's doesn't get the name, and stays.
+#[test]
+fn the_part_of_another_run(rt: HostRuntime) {
+    assert!(rt; puts(&rt, NAME, b"kept", "", &[MADE, NAMED]));
+    let mut log = Log::new(rt.alloc(), "");
+    log.has_other_run = true;
+    let calls = [MADE, "ask part\nlook at part\n"];
+    assert!(rt; !puts_noted(&rt, NAME, b"new", &log, &calls) && stands(&rt, NAME, b"kept"));
+    assert!(rt; stands(&rt, PART, b"new"));
+    removes(&rt, PART);
+    removes(&rt, NAME);
+}
+
+// A reason of a device stays in the note until another one fails.
+#[test]
+fn a_cause_stays(rt: HostRuntime) {
+    let note = LastError::new();
+    let mut shelf = DiskShelf::new(&rt, rt.alloc(), silent(), &note);
+    assert!(rt; shelf.find("no_file_of_a_test.db").is_err());
+    let mut more = ErrorRecorder::new(silent(), Device::Input, &note);
+    assert!(rt; more.read(&mut [0; 4]).is_ok());
+    let said = shelf
+        .said(rt.alloc())
+        .expect(&rt, "memory")
+        .expect(&rt, "a cause");
+    assert!(rt; said.starts_with("no_file_of_a_test.db: "));
 }
 
 #[test]

@@ -1,5 +1,6 @@
 // When `--each` answers an input that comes in pieces, by the file of lions alone, whose values were found apart from this program.
 use crate::lions;
+use crate::listed::{Listed, Log};
 use crate::program::{Told, run_on};
 use crate::shelves::{put, removes};
 use crate::typed::Typed;
@@ -42,4 +43,26 @@ fn answers_before_the_next_line(rt: HostRuntime) {
         let told = told_of_pieces(&rt, BOTH, *longest);
         assert!(rt; told.is(0, b"win 3\nloss 2\n", b"") && told.out.flushes() == *flushes);
     }
+}
+
+// Where the record of the second line's class stands.
+const LOST_IN_2: u64 = 29;
+
+// Two lines that come together, by a file whose second record that is asked can't be read: what ends all stands behind the answer to the line before.
+#[test]
+fn answers_before_a_fault(rt: HostRuntime) {
+    let note = LastError::new();
+    let typed = Typed {
+        left: BOTH,
+        longest: 50,
+    };
+    let mut log = Log::new(rt.alloc(), "");
+    log.unread = Some(LOST_IN_2);
+    let files = Listed { rt: &rt, log: &log };
+    let mut shelf = DiskShelf::new(&files, rt.alloc(), typed, &note);
+    assert!(rt; put(&mut shelf, FILE, lions::FILE));
+    let words = ["look", "--db", FILE, "--each"];
+    let told = run_on(&rt, rt.alloc(), &mut shelf, &words);
+    removes(&rt, FILE);
+    assert!(rt; told.is(3, b"win 3\n", b"dobutsu: E24 Io\n"));
 }

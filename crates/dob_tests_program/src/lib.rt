@@ -9,6 +9,8 @@ mod each;
 #[cfg(test)]
 mod lions;
 #[cfg(test)]
+mod listed;
+#[cfg(test)]
 mod program;
 #[cfg(test)]
 mod progress;

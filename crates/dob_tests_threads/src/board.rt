@@ -1,6 +1,6 @@
 // Boards of two nodes in one thread: each seat reads at once what the other one wrote. What a call does to its own seat, and that no end is announced
 // while a batch is on its way, are clauses of `dob_board`; that no board of 0 or 17 nodes is opened is one too. Seats of several threads are those of builds.
-use dob_board::{Board, Halt, NodeSeat, NotPosted};
+use dob_board::{Blackboard, Halt, NodeSeat, NotPosted};
 use dob_safra::Token;
 use std::alloc::Global;
 use std::process::Abort;
@@ -24,7 +24,7 @@ const PROBE: Token = Token {
 
 // The seats of a new board.
 fn two_seats(rt: &impl Abort, alloc: Global) -> (NodeSeat, NodeSeat) {
-    let (_board, mut seats) = Board::open(alloc, 2).expect(rt, "a board");
+    let (_board, mut seats) = Blackboard::open(alloc, 2).expect(rt, "a board");
     let second = seats.pop().expect(rt, "the second seat");
     let first = seats.pop().expect(rt, "the first seat");
     (first, second)
@@ -123,4 +123,27 @@ fn stay_failed(first: &mut NodeSeat, second: &mut NodeSeat) -> bool {
 fn halts_stay(rt: HostRuntime) {
     let (mut first, mut second) = two_seats(&rt, rt.alloc());
     assert!(rt; stay_failed(&mut first, &mut second));
+}
+
+// The token as the only node hands it to itself.
+const BACK: Token = Token {
+    at: 0,
+    black: WHITE,
+    sum: 0,
+};
+
+// The only node of a ring hands the token to itself, white with its sum, and only then announces the end.
+fn ends_alone(seat: &mut NodeSeat) -> bool {
+    if seat.token() != START || announce(seat) != Halt::Running || seat.stand.token.is_none() {
+        return false;
+    }
+    seat.pass();
+    seat.token() == BACK && announce(seat) == Halt::Ended
+}
+
+#[test]
+fn one_seat_is_a_ring(rt: HostRuntime) {
+    let (_board, mut seats) = Blackboard::open(rt.alloc(), 1).expect(&rt, "a board");
+    let mut seat = seats.pop().expect(&rt, "the seat");
+    assert!(rt; ends_alone(&mut seat));
 }

@@ -28,9 +28,8 @@ fn filled(rt: &impl Abort, alloc: Global, from: usize) -> Outbox {
     assert!(rt; settlement.class < classes.class_count());
     let predecessors = back(alloc, &classes, settlement.class).expect(rt, "memory");
     let mut outbox = Outbox::new(alloc, classes.family, 2, from, 1);
-    outbox
-        .add_targets(settlement, &predecessors)
-        .expect(rt, "memory");
+    outbox.reserve(predecessors.len()).expect(rt, "memory");
+    outbox.add_targets(settlement, &predecessors);
     outbox
 }
 
@@ -69,7 +68,7 @@ fn has_passed(joined: &Rejoined, sent: u64, received: u64, left: usize) -> bool 
     joined.sent() == sent && joined.received() == received && joined.waiting().len() == left
 }
 
-// Whether the inbox for one has room for the first batch alone, until that is taken.
+// Whether the inbox for one has room for the first batch alone, hands the second one back, and gives the first one.
 fn has_room_for_one<R: Wait>(
     rt: &R,
     send: &mut SendEnd,
@@ -86,7 +85,13 @@ fn has_room_for_one<R: Wait>(
     let Some(back) = offer(rt, send, second) else {
         return false;
     };
-    take.next(rt).is_some() && offer(rt, send, back).is_none()
+    if back.number() != 1 {
+        return false;
+    }
+    let Some(taken) = take.next(rt) else {
+        return false;
+    };
+    taken.number() == 0 && offer(rt, send, back).is_none()
 }
 
 #[test]

@@ -1,13 +1,16 @@
 // Runs by threads: crews that make a number of turns, builds, and runners that are turned by hand. That what a build leaves is the value table, with each
 // batch posted, taken, sent and received, is a clause of `dob_run`; the numbers of its values are asked in `dob_answers`, its file in tests/builds.sh.
+ghost use Rattle.std.specs.Prelude.{◌≤◌};
+
 mod builds;
 mod openings;
 mod turns;
 
 use dob_pieces::{Family, PieceSet, Profile};
 use dob_run::{Fault, Gate, run_nodes};
-use dob_stops::Cause;
-use dob_turns::run_turns;
+use dob_share::Cause;
+use dob_turns::{Turned, run_turns};
+use dob_update::Batch;
 use std::process::Abort;
 use std::sync::atomic::{AtomicU64, Ordering};
 use std::thread;
@@ -83,8 +86,7 @@ fn two_nodes_meet(rt: HostRuntime) {
     assert!(rt; gate.second.load(Ordering::SeqCst) == 1);
 }
 
-// Where one thread turns both nodes, whichever first, that one looks for the other's turn in vain and is held back: so a run by one thread fails, as the
-// clauses of turns and runs say.
+// Where one thread turns both nodes, whichever first, that one looks for the other's turn in vain and is held back (`one_thread_is_held_back`).
 #[test]
 fn one_thread_cannot_meet_itself(rt: HostRuntime) {
     assert!(rt; !Meeting::new(0, 100).enter(0));
@@ -130,4 +132,38 @@ fn no_turns_leave_nothing(rt: HostRuntime) {
     let turned = turned.expect(&rt, "no turn");
     let start = [2, 1_407_374_883_553_280, 0, 0, 0, 0, 0, 0, 0, 0, 0];
     assert!(rt; turned.closed.words.as_slice() == start.as_slice());
+    for nodes in [1, 2, 16] {
+        let turned = run_turns(&rt, rt.alloc(), lions(&rt), nodes, 1, 1, 0, &HoldsBackOne);
+        assert!(rt;
+            has_nothing(&turned.expect(&rt, "no turn"), nodes),
+            "{nodes}"
+        );
+    }
+}
+
+// Whether no batch went over the links of so many nodes, and none is left in a link or a hand.
+fn has_nothing(turned: &Turned, nodes: usize) -> bool
+    requires { nodes ≤ 16 }
+{
+    for link in &turned.links {
+        if link.sent() > 0 || link.received() > 0 || !link.waiting().is_empty() {
+            return false;
+        }
+    }
+    for worker in &turned.workers {
+        if !are_empty(&worker.sending) || !are_empty(&worker.taking) {
+            return false;
+        }
+    }
+    turned.links.len() == nodes * nodes && turned.workers.len() == nodes
+}
+
+// Whether there is no batch in these hands.
+fn are_empty(hands: &[Option<Batch>]) -> bool {
+    for hand in hands {
+        if hand.is_some() {
+            return false;
+        }
+    }
+    true
 }

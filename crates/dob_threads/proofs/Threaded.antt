@@ -4,7 +4,7 @@ use Rattle.dob_threads.proofs.Common.{SameProducer, known_items, received, sent,
 use Rattle.dob_threads.proofs.Common.{IsJoinable, IsStartOf, Handed, Kept}
 use Rattle.dob_threads.specs.declared.threads.Started.{Started}
 use Rattle.dob_threads.specs.declared.threads.Started.TheVariants.{Runs, GaveUp}
-use Rattle.dob_stops.specs.declared.cause.Cause.TheVariants.{Memory}
+use Rattle.dob_share.specs.declared.cause.Cause.TheVariants.{Memory}
 use Rattle.dob_runner.proofs.TurnParts.{ended_without_memory}
 use Rattle.std.specs.Global.{Global}
 use Rattle.rtrb.specs.declared.AnyItems.{AnyItems}

@@ -6,7 +6,7 @@ use Rattle.rtrb.specs.declared.producer.Producer.{Producer}
 use Rattle.rtrb.specs.declared.consumer.Consumer.{Consumer}
 use Rattle.rtrb.specs.Ring.{sent, received, IsPair, SameConsumer}
 use Rattle.dob_pieces.specs.declared.profile.Family.{Family}
-use Rattle.dob_stops.specs.declared.cause.Cause.TheVariants.{Memory}
+use Rattle.dob_share.specs.declared.cause.Cause.TheVariants.{Memory}
 use Rattle.dob_runner.specs.declared.runner.Runner.{Runner}
 use Rattle.dob_runner.specs.declared.turn_loop.Until.{Until}
 use Rattle.dob_runner.specs.Runners.{HasFailed, IsHeldBack}

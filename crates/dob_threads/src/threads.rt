@@ -78,7 +78,6 @@ pub fn run_each<R: Threads + Wait + Sync, G: Gate + Sync>(
     )
 }
 
-// Starts the thread of each runner.
 fn start_all<'s, E, R: Threads + Wait + Sync, G: Gate + Sync>(
     rt: &'s R,
     alloc: Global,

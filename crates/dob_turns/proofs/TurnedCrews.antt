@@ -10,12 +10,12 @@ use Rattle.dob_pieces.proofs.Zips.{zip_at}
 use Rattle.dob_pieces.specs.declared.profile.Family.{Family}
 use Rattle.dob_share.specs.declared.news.Item.{Item}
 use Rattle.dob_update.specs.Batches.{BatchView, items_of_batches}
-use Rattle.dob_stops.specs.declared.fault.Fault.{Fault}
-use Rattle.dob_stops.specs.declared.fault.Fault.TheVariants.{Stopped}
+use Rattle.dob_share.specs.declared.build_fault.BuildFault.{BuildFault}
+use Rattle.dob_share.specs.declared.build_fault.BuildFault.TheVariants.{Stopped}
 use Rattle.dob_node.specs.Nodes.{outbox_to}
 use Rattle.dob_node.specs.declared.node.Node.{Node}
 use Rattle.dob_board.specs.Seats.{AreWords}
-use Rattle.dob_board.specs.declared.board.Board.{Board}
+use Rattle.dob_board.specs.declared.board.Blackboard.{Blackboard}
 use Rattle.dob_board.specs.declared.board.Closed.{Closed}
 use Rattle.dob_chan.specs.Ends.{IsRejoined, place_of, sent_by, taken_by, taken_of}
 use Rattle.dob_chan.specs.declared.ends.Rejoined.{Rejoined}
@@ -50,7 +50,6 @@ use Rattle.rayon.proofs.ListFacts.{AllZip-weaken}
 use Rattle.dob_runner.specs.declared.turn_loop.Until.TheVariants as until
 
 -- ---- what a crew's runners leave when they are closed, put together from their parts
-
 pub left_by : (n : ℕ) (runners : List Runner) (nodes : List Node) (endpoints : List Endpoint) (ended : ClosedCrew) (turned : Turned) → nodes ≡ map node_of runners →
     endpoints ≡ map endpoint_of runners → AreClosed n endpoints ended → AreWorkers (length nodes) nodes (map row_of ended.sending.items) (map row_of ended.taking.items) turned.workers.items →
     turned.closed ≡ ended.closed → turned.links ≡ ended.links → HasLeft n runners turned
@@ -100,7 +99,7 @@ abbrev applied_by : Option Runner → ℕ → List Item
 applied_by None from = []
 applied_by (Some runner) from = applied_from runner.node runner.endpoint.inlet from
 
-module _ (board : Board) (family : Family) (size : ℕ) (runners : List Runner) (turned : Turned) (crew : IsCrew board (map endpoint_of runners)) (left : HasLeft board.nodes runners turned)
+module _ (board : Blackboard) (family : Family) (size : ℕ) (runners : List Runner) (turned : Turned) (crew : IsCrew board (map endpoint_of runners)) (left : HasLeft board.nodes runners turned)
     (are : AreRunnersFor family size runners) where
   lawful_at : (k : ℕ) (runner : Runner) → slice_get runners k ≡ Some runner → IsLawfulRunner family size runner.node runner.endpoint
   lawful_at k runner at =
@@ -196,16 +195,16 @@ module _ (board : Board) (family : Family) (size : ℕ) (runners : List Runner) 
 
 -- ---- a crew that was run for some turns
 
-module _ {No : ℕ → Type 0} {until : Until} {family : Family} {n size capacity : ℕ} {board : Board} {ended : List Runner}
+module _ {No : ℕ → Type 0} {until : Until} {family : Family} {n size capacity : ℕ} {board : Blackboard} {ended : List Runner}
     (ran : HasRun No until family n size capacity board ended) where
   kept : AllZip KeepsRunner ran.old ended
   kept = AllZip-weaken (Ends No until) KeepsRunner (λ old new ends. ends.0) ran.old ended ran.ends
 
-  pub first_fault : (fault : Fault) → IsFirstFailed ended fault → HasBuildFault n size capacity fault
+  pub first_fault : (fault : BuildFault) → IsFirstFailed ended fault → HasBuildFault n size capacity fault
   first_fault (Stopped node why) first = fault_by ran node why first.0 first.1
   first_fault _ first = absurd first
 
-  pub first_stops : (fault : Fault) → IsFirstFailed ended fault → StopsSo IsFirstFailed No until family n size capacity fault
+  pub first_stops : (fault : BuildFault) → IsFirstFailed ended fault → StopsSo IsFirstFailed No until family n size capacity fault
   first_stops fault first = stops_so IsFirstFailed No until family n size capacity board ended fault ran first
 
   pub has_turned : (turned : Turned) → AreUnfailed ended → HasLeft board.nodes ended turned → IsTurned family n size turned
@@ -215,7 +214,7 @@ module _ {No : ℕ → Type 0} {until : Until} {family : Family} {n size capacit
 
 -- ---- what went over its links by then
 
-module _ {No : ℕ → Type 0} {turns : ℕ} {family : Family} {n size capacity : ℕ} {board : Board} {ended : List Runner}
+module _ {No : ℕ → Type 0} {turns : ℕ} {family : Family} {n size capacity : ℕ} {board : Blackboard} {ended : List Runner}
     (ran : HasRun No (until.Turns turns) family n size capacity board ended) (unfailed : AreUnfailed ended) where
   few_offered : (i j : ℕ) (runner : Runner) (outlet : Outlet) → slice_get ended i ≡ Some runner → slice_get runner.endpoint.outlets.items j ≡ Some outlet →
       length (offered outlet) ≤ turns

@@ -9,7 +9,7 @@ ghost use Rattle.dob_runner.specs.Runners.{says_no};
 ghost use Rattle.dob_runner.specs.TurnLoop.{until_turns};
 ghost use Rattle.dob_turns.specs.BoundedRun.{IsTurned, CarriesFew, AreWorkers, HasLeft};
 
-use dob_board::{Board, Closed};
+use dob_board::{Blackboard, Closed};
 use dob_chan::Rejoined;
 use dob_node::Node;
 use dob_pieces::{Family, Memory};
@@ -75,11 +75,10 @@ pub fn run_turns<R: Threads + Wait + Sync, G: Gate + Sync>(
     Ok(turned)
 }
 
-// Closes the crew of these runners.
 fn close_crew<R: Wait>(
     rt: &R,
     alloc: Global,
-    board: Board,
+    board: Blackboard,
     runners: Vec<Runner>,
 ) -> Result<Turned, Memory>
     requires { IsCrew board (map endpoint_of runners.items) }

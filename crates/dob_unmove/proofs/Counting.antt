@@ -37,7 +37,7 @@ module _ (Represents : Setup → ℕ → Type 0) (n : IsNumbering Represents) wh
   gathered_known t (u ∷ us) old new g h = gathered_known t us _ new g.2 (known_more (earlier t u) g.0 old g.1 h)
 
   module _ (p : Setup) (class : ℕ) (stands : Represents p class) where
-    abbrev number_of : List ℕ → ℕ
+    abbrev pub number_of : List ℕ → ℕ
     number_of xs = count_by (λ x. x == class) xs
 
     module _ (q : Setup) (twelve : length q.board ≡ 12) where
@@ -120,10 +120,10 @@ module _ (Represents : Setup → ℕ → Type 0) (n : IsNumbering Represents) wh
           (select us (old ++ option_to_list g.0) new tail_can (pairs-tail (λ (u v : RetroMove). u ≢ v) u us once) g.2)
 
       -- the moves of the representative that lead to q itself
-      record Leading (ms : List Move) : Type 0 where
-        sound : (m : Move) → Contains ms m → HasStatus A p Open × HasOutcome p m q
-        whole : (m : Move) → HasStatus A p Open → HasOutcome p m q → Contains ms m
-        once : AllPairs (λ (a b : Move). a ≢ b) ms
+      pub record Leading (ms : List Move) : Type 0 where
+        pub sound : (m : Move) → Contains ms m → HasStatus A p Open × HasOutcome p m q
+        pub whole : (m : Move) → HasStatus A p Open → HasOutcome p m q → Contains ms m
+        pub once : AllPairs (λ (a b : Move). a ≢ b) ms
 
       leading_from : (ms : List Move) → Selects (undoes (turned q)) ms → Leading ms
       leading_from ms s = record {
@@ -147,13 +147,13 @@ module _ (Represents : Setup → ℕ → Type 0) (n : IsNumbering Represents) wh
       can_all : All (CanUndo (turned q)) (undoes (turned q))
       can_all k d lt = undoes_sound (turned q) (get_or (undoes (turned q)) k d) (Contains-get_or (undoes (turned q)) k d lt)
 
-      counted_leading : (old new : List ℕ) → Gathers Represents (turned q) (undoes (turned q)) old new
+      pub counted_leading : (old new : List ℕ) → Gathers Represents (turned q) (undoes (turned q)) old new
           → (ms : List Move) × Leading ms × (number_of new ≡ number_of old + length ms)
       counted_leading old new g =
           let c = select (undoes (turned q)) old new can_all (undoes_once (turned q)) g in
           (c.0, leading_from c.0 c.1, c.2)
 
-    one_outcome : (p : Setup) (m : Move) (a b : Setup) → HasOutcome p m a → HasOutcome p m b → a ≡ b
+    pub one_outcome : (p : Setup) (m : Move) (a b : Setup) → HasOutcome p m a → HasOutcome p m b → a ≡ b
     one_outcome p m a b g h = HasOutcome-is p m a g ∙ sym (HasOutcome-is p m b h)
 
     -- the walk over a position that is its own mirror image counts the moves into its class

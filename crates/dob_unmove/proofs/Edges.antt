@@ -23,7 +23,6 @@ use Rattle.dob_unmove.proofs.Gathering.{sorted_counts}
 use Rattle.dob_unmove.proofs.Ascending.{times, ascending_same, each-below, each-ascends, times-each, times-absent}
 
 -- ---- class numbers
-
 pub RepresentsClass-class_setup : (family : Family) (class : ℕ) → class < classes_of family → RepresentsClass family (class_setup family class) class
 RepresentsClass-class_setup family class below = class_setup_is family class (classes_of family) (HasClasses-classes_of family) below
 
@@ -39,7 +38,6 @@ pub representative_below : (family : Family) (q : Setup) (class : ℕ) → Repre
 representative_below family q class is = subst (λ n. n < classes_of family) (number_of_representative family q class is) (class_number-below family q is.0.0)
 
 -- ---- the moves into a class
-
 contains_filter : {X : Type 0} (test : X → Bool) (xs : List X) (x : X) → Contains xs x → test x ≡ true → Contains (filter test xs) x
 contains_filter test [] x h is = absurd (none_in_empty x h)
 contains_filter {X} test (y ∷ ys) x h is = elim (cons_cases y ys x h) [

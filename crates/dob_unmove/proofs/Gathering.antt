@@ -41,7 +41,6 @@ sorted_counts Represents q xs ys c moved rises = record {
 }
 
 -- ---- what was found
-
 pub alone_found : (Represents : Setup → ℕ → Type 0) → IsNumbering Represents → (q t : Setup) (old new : List ℕ) → IsLegal q → mirrored q ≡ q
     → t ≡ turned q → old ≡ [] → Gathers Represents t (undoes t) old new → CountEdges A Represents q new
 alone_found Represents n q t old new legal own e none g =

@@ -1,8 +1,8 @@
 -- Taking a move back keeps the lions and the other pieces, and the profile allows what stood before just where the piece that was caught may stand again.
 use Rattle.dob_unmove.proofs.Common.{if◌then◌else◌, ◌<◌, ◌∙◌, ◌≡◌, Bool, Some, ap, arith, false, inl, inr, length, not, refl, subst, sym, true, true≢false, ℕ}
 use Rattle.dob_unmove.proofs.Common.{cases_eq, all_below, all_below-at, leads-to_board, within-from_piece, leads, is_far, may_stand, piece_of, row, Kind}
-use Rattle.dob_unmove.proofs.Common.{Chick, Mover, Profile, A, B, none_stands, enemy_cell, Unput, Unstep, turned-mirrored, IsAllowed}
-use Rattle.dob_unmove.proofs.Common.{HasLionOffFarRow, IsLegal, mirrored, total, turned, Family, Setup, IsPositionOf, IsPositionOf-mirrored, IsBoardOf}
+use Rattle.dob_unmove.proofs.Common.{Chick, Mover, Profile, A, B, none_stands, enemy_cell, Unput, Unstep, IsAllowed}
+use Rattle.dob_unmove.proofs.Common.{HasLionOffFarRow, IsLegal, mirrored, total, Family, Setup, IsPositionOf, IsPositionOf-mirrored, IsBoardOf}
 use Rattle.dob_unmove.proofs.Common.{IsShown, Board, IsSeenTurned, CanUndo, earlier, may_give_back, RetroMove}
 use Rattle.dob_pieces.proofs.Allowed.{stands-from_allowed, allowed-from_stands, IsAllowed-turned}
 use Rattle.dob_unmove.proofs.Undone.{leaves, ends_on, came, given, IsBefore, is_before, turned_squares, squares_before, total_before, lions_before}
@@ -90,7 +90,3 @@ module _ (family : Family) (after : Setup) (u : RetroMove) (can : CanUndo after 
 
 pub position_mirrored : (family : Family) (q image : Setup) → IsPositionOf family q → image ≡ mirrored q → IsPositionOf family image
 position_mirrored family q image is e = subst (IsPositionOf family) (sym e) (IsPositionOf-mirrored family q is)
-
--- the mirror image of a turned position is a turned one
-pub turned_image : (family : Family) (q : Setup) → IsPositionOf family q → IsSeenTurned (IsPositionOf family) (mirrored (turned q))
-turned_image family q is = (mirrored q, IsPositionOf-mirrored family q is, sym (turned-mirrored q))

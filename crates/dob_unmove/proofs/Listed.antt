@@ -11,7 +11,6 @@ use Rattle.dob_unmove.proofs.Undone.{ends_on}
 use Rattle.dob_pieces.proofs.Lists.{cond_whole, each_whole, rest_in}
 
 -- ---- the tests
-
 pub is_kind-same : (own kind : Kind) → is_kind own kind ≡ true → own ≡ kind
 is_kind-same Lion Lion e = refl
 is_kind-same Giraffe Giraffe e = refl
@@ -58,7 +57,6 @@ free_step after kind from to there empty leads on_board = search (rules, stands-
 pub ruleset steps = (runs, free_step)
 
 -- ---- the way alone, if a test is met
-
 pub if_so_sound : (b : Bool) (x u : RetroMove) → Contains (if_so b x) u → (b ≡ true) × (x ≡ u)
 if_so_sound b x u h = search (rules, cond_sound, cons_cases, none_in_empty)
 
@@ -66,7 +64,6 @@ if_so_whole : (b : Bool) (x : RetroMove) → b ≡ true → Contains (if_so b x)
 if_so_whole b x e = cond_whole b (x ∷ []) x e (head_in x [])
 
 -- ---- every way in the list can undo the last move
-
 either : {P : Type 0} (xs ys : List RetroMove) (u : RetroMove) → Contains (xs ++ ys) u → (Contains xs u → P) → (Contains ys u → P) → P
 either xs ys u h first second = elim (Contains-append_cases xs ys u h) [ inl a ↦ first a | inr b ↦ second b ]
 

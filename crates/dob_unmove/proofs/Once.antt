@@ -6,7 +6,6 @@ use Rattle.dob_pieces.specs.declared.kind.HandKind.TheVariants as hand
 use Rattle.dob_pieces.proofs.Lists.{Rising, rising-lower, rising-append, rising-cond, rising-each, rising-pairs}
 
 -- ---- the place of a way in the walk
-
 caught_place : Option Kind → ℕ
 caught_place None = 0
 caught_place (Some kind) = kind_place kind

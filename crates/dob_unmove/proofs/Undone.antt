@@ -13,7 +13,6 @@ use Rattle.dob_moves.specs.Outcomes.{arrives_as, moved, with_caught}
 use Rattle.dob_moves.proofs.Outcomes.{Met, step_parts, HasOutcome-parts}
 
 -- ---- hands and boards written and written back
-
 one_less-more : (h : Hand) (k : HandKind) → with_one_less (with_one_more h k) k ≡ h
 one_less-more h hand.Chick = let e : h.chicks + 1 - 1 ≡ h.chicks = omega arith in λ i. record h { chicks = e i }
 one_less-more h hand.Elephant = let e : h.elephants + 1 - 1 ≡ h.elephants = omega arith in λ i. record h { elephants = e i }
@@ -210,7 +209,6 @@ undo_from_HasOutcome p m q twelve g =
     subst (λ (t : Setup). (u : RetroMove) × Undoes p m t u) (sym after) (undone p m q twelve g)
 
 -- ---- two ways never take the same move back to the same setup
-
 abbrev kind_there : Cell → Option Kind
 kind_there None = None
 kind_there (Some piece) = Some piece.kind
@@ -232,7 +230,6 @@ same_undo after (Unput kind to) (Unput kind2 to2) twelve can other e f = cc
 same_undo after _ _ twelve can other e f = cc
 
 -- ---- what a setup after a move keeps of the position to which it was turned, and what stood before it
-
 pub turned_squares : (after : Setup) → IsSeenTurned IsLegal after → length after.board ≡ 12
 turned_squares after t = rw t.2 (length-turned t.0)
 

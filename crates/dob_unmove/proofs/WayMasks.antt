@@ -1,22 +1,17 @@
 -- The sets of the ways: where the lion may stand, where a move may have ended, from where a piece may have come.
-use Rattle.dob_unmove.proofs.Common.{◌&&◌, ◌==◌, ◌||◌, ◌∙◌, ◌≡◌, ◌≢◌, Bool, Some, ap, false, inl, inr, nat_lt, not, refl, sym, true, ℕ}
-use Rattle.dob_unmove.proofs.Common.{and_parts, cases_eq, eq-eqb, ne_eqb, length, cell_lion, is_that_lion, all_below, all_below-at, one_lion, IsMask-same}
-use Rattle.dob_unmove.proofs.Common.{none_passes, passes_somewhere, everywhere, is_mask, IsMask, is_own, is_piece, Cell, HasLions, at, piece_of, column}
+use Rattle.dob_unmove.proofs.Common.{◌&&◌, ◌==◌, ◌∙◌, ◌≡◌, ◌≢◌, Bool, Some, ap, false, inl, inr, not, refl, sym, true, ℕ}
+use Rattle.dob_unmove.proofs.Common.{and_parts, cases_eq, eq-eqb, ne_eqb, length, cell_lion, is_that_lion, all_below-at, one_lion, IsMask-same}
+use Rattle.dob_unmove.proofs.Common.{none_passes, passes_somewhere, everywhere, is_mask, IsMask, is_own, is_piece, Cell, HasLions, at, piece_of, row}
 use Rattle.dob_unmove.proofs.Common.{within-from_piece, Kind, Lion, Side, Mover, Setup, elsewhere, TellsHome, comes_home, is_home, may_have_ended, One, Threat}
 use mathlib.Core.Bool.{beq}
 use Rattle.std.proofs.Math.Bool.{and-true}
 use Rattle.dob_pieces.proofs.Symmetries.{beq-true}
 
 -- ---- where the lion stands, and squares without it
-
-abbrev home_by : Bool → ℕ → Bool
-home_by aside s = nat_lt s 9 && ((column s == 0) || ((column s == 1) && not aside))
-
-pub homes_on : (lion mask : ℕ) (aside : Bool) (test : ℕ → Bool) → (column lion == 2) ≡ aside → all_below (λ s. beq (test s) (home_by aside s)) 12 ≡ true
-    → IsMask test mask → IsMask (is_home lion) mask
-homes_on lion mask aside test e all is =
-    IsMask-same test (is_home lion) mask
-    (λ s lt. beq-true (test s) (home_by aside s) (all_below-at (λ s. beq (test s) (home_by aside s)) 12 s all lt) ∙ ap (λ b. home_by b s) (sym e)) is
+pub off_far_row : (mask : ℕ) → IsMask (λ s. true && not (row s == 3)) mask → IsMask is_home mask
+off_far_row mask is =
+    IsMask-same (λ s. true && not (row s == 3)) is_home mask
+    (λ s lt. beq-true (true && not (row s == 3)) (is_home s) (all_below-at (λ s. beq (true && not (row s == 3)) (is_home s)) 12 s refl lt)) is
 
 pub nowhere : (test : ℕ → Bool) → ((s : ℕ) → test s ≡ false) → IsMask test 0
 nowhere test none = IsMask-same (λ s. false) test 0 (λ s lt. sym (none s)) (is_mask (λ s. false) 0 refl)
@@ -28,9 +23,9 @@ alone a s = elim (cases_eq s a) [
   | inr apart ↦ ne_eqb s a apart ∙ sym (ap (λ b. not (not b)) (ne_eqb a s (λ same. apart (sym same))))
 ]
 
-pub comes_anywhere : (kind : Kind) (lion : ℕ) → kind ≢ Lion → IsMask (comes_home kind lion) 4095
-comes_anywhere Lion lion other = absurd (other refl)
-comes_anywhere kind lion other = everywhere (comes_home kind lion) (λ s. refl)
+pub comes_anywhere : (kind : Kind) → kind ≢ Lion → IsMask (comes_home kind) 4095
+comes_anywhere Lion other = absurd (other refl)
+comes_anywhere kind other = everywhere (comes_home kind) (λ s. refl)
 
 -- ---- where a move may have ended
 
@@ -39,18 +34,18 @@ pub lion_passes : (side : Side) (cell : Cell) → is_piece side Lion cell ≡ tr
 lion_passes side cell h = is_that_lion side cell (sym (cell_lion side cell) ∙ h)
 
 module _ (after : Setup) (threat : Threat) (both calm : ℕ) (twelve : length after.board ≡ 12) (lions : HasLions after)
-    (both_are : IsMask (λ s. is_piece Mover Lion (at after s) && is_home threat.lion s) both)
+    (both_are : IsMask (λ s. is_piece Mover Lion (at after s) && is_home s) both)
     (calm_are : IsMask (λ s. is_own (at after s) && not (elsewhere threat.attackers s)) calm) where
   -- whether the lion stands at home, and so where the move may have ended
   abbrev pub Told : ℕ → Type 0
-  Told ends = (stays : Bool) × TellsHome after threat.lion stays × IsMask (may_have_ended after threat stays) ends
+  Told ends = (stays : Bool) × TellsHome after stays × IsMask (may_have_ended after threat stays) ends
 
   -- no lion at home
   pub away : (moved : ℕ) → both ≡ 0 → IsMask (may_have_ended after threat false) moved → Told moved
   away moved none are = (
     false,
     λ s is. rw (ap (is_piece Mover Lion) is) at
-        (none_passes (λ k. is_piece Mover Lion (at after k) && is_home threat.lion k) both both_are none s
+        (none_passes (λ k. is_piece Mover Lion (at after k) && is_home k) both both_are none s
         (rw twelve at (within-from_piece after s (piece_of Mover Lion) is))),
     are,
   )
@@ -60,8 +55,8 @@ module _ (after : Setup) (threat : Threat) (both calm : ℕ) (twelve : length af
   at_home some = (
     true,
     λ s is.
-        let there = passes_somewhere (λ k. is_piece Mover Lion (at after k) && is_home threat.lion k) both both_are some in
-        let parts = and_parts (is_piece Mover Lion (at after there.0)) (is_home threat.lion there.0) there.2 in
+        let there = passes_somewhere (λ k. is_piece Mover Lion (at after k) && is_home k) both both_are some in
+        let parts = and_parts (is_piece Mover Lion (at after there.0)) (is_home there.0) there.2 in
         rw (one_lion Mover after s there.0 lions is (lion_passes Mover (at after there.0) parts.0)) parts.1,
     IsMask-same (λ s. is_own (at after s) && not (elsewhere threat.attackers s)) (may_have_ended after threat true) calm
         (λ s lt. sym (and-true (is_own (at after s) && not (elsewhere threat.attackers s)))) calm_are,

@@ -13,7 +13,10 @@ ghost use Rattle.dob_unmove.specs.Undoes.{arrives_at as arrival, CanUndo, earlie
 ghost use Rattle.dob_unmove.specs.Unmoves.{CountEdges, ArePredecessors};
 ghost use Rattle.dob_unmove.specs.Edges.{predecessors};
 ghost use Rattle.dob_unmove.specs.Classes.{RepresentsClass};
-ghost use Rattle.dob_unmove.specs.Gathers.{Finds};
+ghost use Rattle.dob_moves.specs.declared.position_status.Status.{Status};
+ghost use Rattle.dob_moves.specs.Statuses.{HasStatus};
+ghost use Rattle.dob_classes.specs.Views.{IsShown};
+ghost use Rattle.dob_unmove.specs.Gathers.{AddsClasses, Appends};
 ghost use Rattle.dob_unmove.specs.Threats.{stood_before};
 ghost use Rattle.dob_unmove.specs.Walks.{stands, uncatch, unsteps_from, unsteps, unputs, undoes_at, undoes};
 ghost use Rattle.dob_unmove.specs.Ways.{may_come, AreWays};
@@ -22,20 +25,22 @@ ghost use Rattle.dob_unmove.specs.Ends.{CanWalk, CanEnd, Collects, setup_after};
 use crate::bits_before::bits_before;
 use crate::earlier::may_give_back;
 use crate::undo::RetroMove;
-use crate::ways::Ways;
+use crate::ways::{Ways, has_lions_on_b};
 use dob_classes::Classes;
 use dob_pieces::{Board, HandKind, Kind, Memory, Side, Square};
 use std::alloc::Global;
 use std::snapshot::Snapshot;
 
-// A walk over the ways to take back the moves that led to the representative of the class, or to its mirror image. The side
-// that made them is the mover in the ways, whose board shows all that a walk asks of the setup.
+// A walk over the ways to take back the moves that led to the representative of the class. The side that made them is the mover in the
+// ways, whose board shows all that a walk asks of the setup. The mirror images of what stood before led to the mirror image: their classes are found too.
 #[derive(Drop)]
 struct RetroMoves<'a> {
     classes: &'a Classes,
-    // The class, and whether it is the mirror image: they say of what the ways are.
-    led_to: Snapshot<(u64, bool)>,
+    // The class, which says of what the ways are.
+    led_to: Snapshot<u64>,
     ways: &'a Ways,
+    // Whether the representative is its own mirror image: then the walk comes to the mirror image of each position before it too.
+    is_own_image: bool,
 }
 
 // A square on which the move may have ended.
@@ -46,7 +51,7 @@ struct End<'a> {
 }
 
 impl RetroMoves<'_> {
-    // Appends the classes of the open representatives that stood before the setup.
+    // Appends the classes of the open positions that stood before the setup.
     fn gather_all(&self, found: &mut Vec<u64>) -> Result<(), Memory>
         requires { CanWalk self.now }
         ensures { OnOk result (Collects self.now (undoes (setup_after self.now)) found.old.items found.new.items) }
@@ -58,7 +63,7 @@ impl RetroMoves<'_> {
         Ok(())
     }
 
-    // The one from which the move was made in that way, if it was the earlier one of its class.
+    // Those of the position from which the move was made in that way, which was open. In profile B no chick is given back on row 1, where none stood.
     fn gather_one(&self, undo: RetroMove, found: &mut Vec<u64>) -> Result<(), Memory>
         requires walk { CanWalk self.now }
         requires can { CanUndo (setup_after self.now) undo }
@@ -66,28 +71,42 @@ impl RetroMoves<'_> {
         requires home { HasLionOffFarRow (earlier (setup_after self.now) undo) }
         ensures { OnOk result (Collects self.now (undo ∷ []) found.old.items found.new.items) }
     {
-        if let Some(class) = self.class_before(undo) {
-            found.push(class)?;
-        }
-        Ok(())
-    }
-
-    // The class whose representative stood there before a move that left an open position, if a representative did. In
-    // profile B no chick is given back on row 1, where none stood.
-    fn class_before(&self, undo: RetroMove) -> Option<u64>
-        requires walk { CanWalk self.now }
-        requires can { CanUndo (setup_after self.now) undo }
-        requires calm { stood_before self.now.ways.now.threat undo ≡ false }
-        requires home { HasLionOffFarRow (earlier (setup_after self.now) undo) }
-        ensures { Finds (RepresentsClass self.now.classes.now.family) (earlier (setup_after self.now) undo) result }
-    {
         if may_give_back(self.classes.family.profile, &undo) {
             let before = bits_before(self.ways.board, undo);
-            self.classes.class_if_representative(&before)
+            self.gather_class(&before, found)
         } else {
-            None
+            Ok(())
         }
     }
+
+    // Appends the class of the position that the board shows, as often as it counts: once if the position is the class's representative, and once if its
+    // mirror image is. Both are where they are the same, and then their lions stand on column b.
+    fn gather_class(&self, before: &Board, found: &mut Vec<u64>) -> Result<(), Memory>
+        requires { (p : Setup) × IsShown self.now.classes.now.family p before.now }
+        ensures { OnOk result ((p : Setup) → IsShown self.now.classes.now.family p before.now → HasStatus A p Status.Open
+            → AddsClasses self.now.is_own_image (RepresentsClass self.now.classes.now.family) p found.old.items found.new.items) }
+    {
+        if self.is_own_image {
+            return push_representative(self.classes, before, found);
+        }
+        if has_lions_on_b(before) {
+            push_representative(self.classes, before, found)?;
+            return push_representative(self.classes, &before.mirrored(), found);
+        }
+        found.push(self.classes.class_by(before))?;
+        Ok(())
+    }
+}
+
+// Appends the class of the position that the board shows, if that is the class's representative.
+fn push_representative(classes: &Classes, board: &Board, found: &mut Vec<u64>) -> Result<(), Memory>
+    requires { (p : Setup) × IsShown classes.now.family p board.now }
+    ensures { OnOk result ((p : Setup) → IsShown classes.now.family p board.now → Appends (RepresentsClass classes.now.family) p found.old.items found.new.items) }
+{
+    if let Some(class) = classes.class_if_representative(board) {
+        found.push(class)?;
+    }
+    Ok(())
 }
 
 impl End<'_> {
@@ -158,7 +177,7 @@ impl End<'_> {
     }
 
     // Those from which a piece of that kind stepped from the one square to the other.
-    #[tactic(auto, using(crate::proofs::Gathered::gathers))]
+    #[tactic(auto, using(crate::proofs::Runs::runs))]
     fn gather_steps_from(
         &self,
         kind: Kind,
@@ -184,7 +203,7 @@ impl End<'_> {
     }
 
     // Those from which that step caught a piece of that kind, if the hand has it.
-    #[tactic(auto, using(crate::proofs::Gathered::gathers))]
+    #[tactic(auto, using(crate::proofs::Runs::runs))]
     fn gather_catch(
         &self,
         kind: Kind,
@@ -226,7 +245,7 @@ fn is_own_image(classes: &Classes, class: u64, ways: &Ways) -> bool
     requires ways { AreWays (turned (class_setup classes.now.family class)) ways.now }
     ensures { IsTrue result ↔ (mirrored (class_setup classes.now.family class) ≡ class_setup classes.now.family class) }
 {
-    if ways.has_lions_on_b() {
+    if has_lions_on_b(&ways.board) {
         let image = classes.board_at(class, Side::Mover).mirrored();
         return classes.class_if_representative(&image).is_some();
     }
@@ -234,7 +253,7 @@ fn is_own_image(classes: &Classes, class: u64, ways: &Ways) -> bool
 }
 
 // The classes from which moves lead to the representative of the class or to its mirror image, in the order of the walk, in
-// the room of that list. What the walks need is the board that the enemy sees of the representative.
+// the room of that list. What the walk needs is the board that the enemy sees of the representative.
 #[inline(always)]
 fn gather(room: Vec<u64>, classes: &Classes, class: u64, board: &Board) -> Result<Vec<u64>, Memory>
     requires class { class < classes_of classes.now.family }
@@ -246,20 +265,11 @@ fn gather(room: Vec<u64>, classes: &Classes, class: u64, board: &Board) -> Resul
     let ways = Ways::of(*board);
     let walk = RetroMoves {
         classes,
-        led_to: Snapshot::of(&(class, false)),
+        led_to: Snapshot::of(&class),
         ways: &ways,
+        is_own_image: is_own_image(classes, class, &ways),
     };
     walk.gather_all(&mut found)?;
-    if is_own_image(classes, class, &ways) {
-        return Ok(found);
-    }
-    let image_ways = Ways::of(ways.board.mirrored());
-    let image_walk = RetroMoves {
-        classes,
-        led_to: Snapshot::of(&(class, true)),
-        ways: &image_ways,
-    };
-    image_walk.gather_all(&mut found)?;
     Ok(found)
 }
 

@@ -1,8 +1,8 @@
 // What a board shows of the ways to take a move back: where it may have ended, and from where a piece may have come, so that what
-// stood before was open and the earlier one of its class. All other ways are skipped.
+// stood before was an open position. All other ways are skipped.
 ghost use Rattle.std.specs.Prelude.{◌≡◌, not, IsTrue};
 ghost use Rattle.dob_pieces.specs.Masks.{IsMask};
-ghost use Rattle.dob_pieces.specs.Setups.{mirrored, IsLegal};
+ghost use Rattle.dob_pieces.specs.Setups.{mirrored, HasLions, IsLegal};
 ghost use Rattle.dob_pieces.specs.declared.setup.Setup.{Setup};
 ghost use Rattle.dob_pieces.specs.Boards.{IsBoardOf};
 ghost use Rattle.dob_unmove.specs.Classes.{IsSeenTurned};
@@ -21,21 +21,15 @@ pub(crate) struct Ways {
     pub(crate) threat: Threat,
     /// The empty squares.
     pub(crate) empty: SquareSet,
-    /// Where the mover's lion of a representative may stand.
-    pub(crate) homes: SquareSet,
     /// Where the move may have ended.
     pub(crate) ends: SquareSet,
 }
 
-// Where the mover's lion of a representative may stand, by the square of the enemy's.
-fn homes_of(lion: Square) -> SquareSet
-    ensures { IsMask (is_home lion) result }
+// Where the mover's lion may have stood: off row 4.
+fn homes() -> SquareSet
+    ensures { IsMask is_home result }
 {
-    if lion.column() == 2 {
-        SquareSet::COLUMN_A.but_not(SquareSet::FAR_ROW)
-    } else {
-        SquareSet::ALL.but_not(SquareSet::COLUMN_C.or(SquareSet::FAR_ROW))
-    }
+    SquareSet::ALL.but_not(SquareSet::FAR_ROW)
 }
 
 // Where a move may have ended if no piece that didn't move attacks the enemy lion.
@@ -49,6 +43,16 @@ fn calm_ends(attackers: Attackers) -> SquareSet
     }
 }
 
+// Where a piece of that kind may have stood as far as the row says: the lion off row 4, and any other everywhere.
+fn homes_for(kind: Kind) -> SquareSet
+    ensures { IsMask (comes_home kind) result }
+{
+    match kind {
+        Kind::Lion => homes(),
+        _ => SquareSet::ALL,
+    }
+}
+
 impl Ways {
     /// What is known of the ways that lead there.
     pub(crate) fn of(board: Board) -> Ways
@@ -56,10 +60,9 @@ impl Ways {
         ensures { (after : Setup) → IsSeenTurned IsLegal after → IsBoardOf after board → AreWays after result }
     {
         let threat = Threat::of(&board);
-        let homes = homes_of(threat.lion);
         let calm = board.own().and(calm_ends(threat.attackers));
         let moved = calm.and(board.own_lion);
-        let ends = if board.own_lion.and(homes).is_empty() {
+        let ends = if board.own_lion.and(homes()).is_empty() {
             moved
         } else {
             calm
@@ -68,7 +71,6 @@ impl Ways {
             board,
             threat,
             empty: board.empty(),
-            homes,
             ends,
         }
     }
@@ -80,17 +82,7 @@ impl Ways {
         kind.sources(to)
             .and(self.empty)
             .but_not(kind.sources(self.threat.lion))
-            .and(self.homes_for(kind))
-    }
-
-    // Where a piece of that kind may have stood as far as the lions say: the lion at home, and any other everywhere.
-    fn homes_for(&self, kind: Kind) -> SquareSet
-        ensures { (after : Setup) → AreWays after self.now → IsMask (comes_home kind self.now.threat.lion) result }
-    {
-        match kind {
-            Kind::Lion => self.homes,
-            _ => SquareSet::ALL,
-        }
+            .and(homes_for(kind))
     }
 
     /// Whether the mover holds what a caught piece of that kind became.
@@ -99,12 +91,12 @@ impl Ways {
     {
         holds_caught(&self.board.hands.mover, caught)
     }
+}
 
-    /// Whether both lions stand on column b, as they do where the setup is its own mirror image.
-    pub(crate) fn has_lions_on_b(&self) -> bool
-        ensures { (after : Setup) → IsSeenTurned IsLegal after → AreWays after self.now → mirrored after ≡ after → IsTrue result }
-    {
-        let lions = self.board.own_lion.or(self.board.enemy_lion);
-        lions.but_not(SquareSet::COLUMN_B).is_empty()
-    }
+/// Whether both lions stand on column b, as they do where the setup is its own mirror image.
+pub(crate) fn has_lions_on_b(board: &Board) -> bool
+    ensures { (setup : Setup) → HasLions setup → IsBoardOf setup board.now → mirrored setup ≡ setup → IsTrue result }
+{
+    let lions = board.own_lion.or(board.enemy_lion);
+    lions.but_not(SquareSet::COLUMN_B).is_empty()
 }

@@ -5,7 +5,7 @@ use Rattle.dob_pieces.specs.declared.profile.Family.{Family}
 use Rattle.dob_unmove.specs.Edges.{predecessors}
 use Rattle.dob_share.specs.declared.news.Settlement.{Settlement}
 use Rattle.dob_share.specs.declared.news.Item.{Item}
-use Rattle.dob_share.specs.Items.{items_of, items_from}
+use Rattle.dob_share.specs.Items.{items_from}
 
 -- a batch of a family among n nodes, from one node to another, by its number on this link
 pub record BatchView : Type 0 where
@@ -93,13 +93,10 @@ with_items s (item ∷ items) = s ∷ []
 abbrev pub added : OutboxView → Settlement → List Item → OutboxView
 added outbox s items = record outbox { settlements = outbox.settlements ++ with_items s items; items = outbox.items ++ items }
 
--- The outbox is the one before with a settlement more, which has that many items for the receiver.
-pub record HasOneMore (before : OutboxView) (count : ℕ) (outbox : OutboxView) : Type 0 where
-  pub settlement : Settlement
-  pub items : List Item
-  pub items_are : items ≡ items_of (predecessors before.family) before.n before.to settlement
-  pub many : length items ≡ count
-  pub outbox_is : outbox ≡ added before settlement items
+-- what an outbox has to send, and for how many items of one more settlement it has room
+pub record OutboxState : Type 0 where
+  pub sends : OutboxView
+  pub room : ℕ
 
 -- What is cut is the first `size` items, or all where there are fewer, and what is left are the others. The batch has
 -- the outbox's next number, and lists the first of its settlements; the outbox keeps the last of them.

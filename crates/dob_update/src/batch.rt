@@ -13,19 +13,19 @@ use std::marker::Model;
 
 /// A batch of items from one of `n` owners of a family's classes to another. Its items are those of its settlements
 /// for the receiver, ascending in each settlement, without the first `skip` of them and up to some item; there is at
-/// least one, and each settlement has one among them. A batch keeps 8 bytes an item, the class that it is for, and 32 a
+/// least one, and each settlement has one among them. A batch keeps 8 bytes an item, the class that it is for, and 24 a
 /// settlement, with room for a settlement for each item.
 #[derive(Drop)]
 pub struct Batch {
-    family: Family,
-    n: usize,
-    from: usize,
-    to: usize,
-    number: u64,
-    parts: Vec<Part>,
-    skip: usize,
+    pub(crate) family: Family,
+    pub(crate) n: usize,
+    pub(crate) from: usize,
+    pub(crate) to: usize,
+    pub(crate) number: u64,
+    pub(crate) parts: Vec<Part>,
+    pub(crate) skip: usize,
     // The classes that the parts' items are for, one part after the other.
-    classes: Vec<u64>,
+    pub(crate) classes: Vec<u64>,
 }
 
 impl Model for Batch {
@@ -43,32 +43,6 @@ impl Model for Batch {
 }
 
 impl Batch {
-    /// The batch of the items of those parts, for those classes.
-    pub(crate) fn new(
-        family: Family,
-        n: usize,
-        from: usize,
-        to: usize,
-        number: u64,
-        parts: Vec<Part>,
-        skip: usize,
-        classes: Vec<u64>,
-    ) -> Batch
-        requires { AreItemsRun family n to parts.items skip classes.items }
-        ensures { result ≡ record { family = family; n = n; from = from; to = to; number = number; settlements = settlements_of parts.items; skip = skip; items = items_of_parts parts.items classes.items } }
-    {
-        Batch {
-            family,
-            n,
-            from,
-            to,
-            number,
-            parts,
-            skip,
-            classes,
-        }
-    }
-
     /// The family.
     pub fn family(&self) -> Family
         ensures { result ≡ self.now.family }
@@ -171,9 +145,8 @@ fn keep_front(parts: &mut Vec<Part>, k: usize)
     let mut rest = k;
     let mut index = 0;
     while rest > 0 && index < parts.len() {
-        let part = parts[index];
-        let items = part.items.min(rest);
-        parts[index] = Part { items, ..part };
+        let items = parts[index].items().min(rest);
+        parts[index] = parts[index].with_items(items);
         rest -= items;
         index += 1;
     }
@@ -188,8 +161,9 @@ fn push_parts(list: &mut Vec<Item>, parts: &[Part], classes: &[u64])
 {
     let mut next = 0;
     for part in parts {
-        push_part_items(list, part.settlement, classes, next, part.items);
-        next += part.items;
+        let items = part.items();
+        push_part_items(list, part.settlement(), classes, next, items);
+        next += items;
     }
 }
 

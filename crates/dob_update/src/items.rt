@@ -1,6 +1,5 @@
 // The items that a settlement makes.
-ghost use Rattle.std.specs.Prelude.{◌≡◌, ◌<◌, ◌++◌, ℕ, length, take, OnOk, OnErr};
-ghost use Rattle.dob_share.specs.declared.news.Settlement.{Settlement as Settled};
+ghost use Rattle.std.specs.Prelude.{◌≡◌, ◌<◌, ◌++◌, ℕ, take, OnOk, OnErr};
 ghost use Rattle.dob_share.specs.Items.{items_of};
 
 use dob_pieces::Memory;
@@ -25,18 +24,4 @@ pub fn push_items(
         }
     }
     Ok(())
-}
-
-/// How many items a settlement has for the owner `to`, one of `nodes`, if its class has these predecessors.
-pub fn count_items(predecessors: &[u64], nodes: usize, to: usize) -> usize
-    requires { 0 < nodes }
-    ensures { (settlement : Settled) → result ≡ length (items_of (λ _. predecessors.now) nodes to settlement) }
-{
-    let mut count = 0;
-    for class in predecessors {
-        if to == owner(*class, nodes) {
-            count += 1;
-        }
-    }
-    count
 }

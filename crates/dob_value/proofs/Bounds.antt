@@ -15,7 +15,6 @@ use Rattle.dob_value.proofs.Rows.{class_setup_is, class_outlook}
 use Rattle.dob_value.proofs.Successors.{moves_keep_the_family}
 
 -- ---- the moves of a class lead into classes
-
 is_position : (family : Family) (number : ℕ) → number < classes_of family → IsPositionOf family (class_setup family number)
 is_position family number low = (class_setup_is family number (classes_of family) (HasClasses-classes_of family) low).0.0
 
@@ -115,7 +114,6 @@ deep_within family n entries cut some = distance_within family n entries (record
 }) some.0 n some.1 some.2 (omega arith)
 
 -- ---- value tables
-
 value_distance : (profile : Profile) (p : Setup) (v : Value) → HasValue profile p v → (plies_of v ≡ 0) ⊎ HasDistance profile p (plies_of v)
 value_distance profile p (Win plies) has = inr (inl has)
 value_distance profile p (Loss plies) has = inr (inr has)

@@ -1,6 +1,6 @@
 -- A list of successors' numbers as it grows.
-use Rattle.dob_value.proofs.Common.{◌++◌, ◌+◌, ◌<◌, ◌∷◌, ◌≡◌, ◌≤◌, Contains, List, Some, [], arith, get_or, inl, inr, length, slice_get, subst, sym, ℕ}
-use Rattle.dob_value.proofs.Common.{Contains-append_left, Contains-get_or, Contains-push, Contains-push_cases, before_or_here, standing, Family, Profile, Setup}
+use Rattle.dob_value.proofs.Common.{◌++◌, ◌+◌, ◌<◌, ◌∷◌, ◌≡◌, ◌≤◌, Contains, List, Some, [], arith, inl, inr, length, slice_get, subst, ℕ}
+use Rattle.dob_value.proofs.Common.{Contains-append_left, Contains-push, Contains-push_cases, before_or_here, standing, Family, Profile, Setup}
 use Rattle.dob_value.proofs.Common.{IsLegal-Goes, total-Goes, CanGo, Goes, AreMoves, HasStatus, Move, Open, IsPositionOf, AreSuccessors}
 use Rattle.dob_moves.proofs.Kept.{IsAllowed-Goes}
 
@@ -14,12 +14,6 @@ pub record AreSuccessorsBelow (profile : Profile) {X : Type 0} (StandsFor : X �
   pub sound : (number : X) → Contains numbers number → (move : Move) × (q : Setup) × Goes profile p move q × StandsFor number q
   pub whole : (index : ℕ) (move : Move) (q : Setup) → index < upto → slice_get legal index ≡ Some move → Goes profile p move q →
       (number : X) × Contains numbers number × StandsFor number q
-
--- what the list of moves says of an entry that was read
-pub move_goes : (profile : Profile) (p : Setup) (legal : List Move) (index : ℕ) (played : Move) → AreMoves profile p legal → index < length legal →
-    played ≡ get_or legal index played → HasStatus profile p Open × CanGo profile p played
-move_goes profile p legal index played are_moves within read =
-    are_moves.sound played (subst (λ m. Contains legal m) (sym read) (Contains-get_or legal index played within))
 
 module _ (profile : Profile) {X : Type 0} (StandsFor : X → Setup → Type 0) (p : Setup) (legal : List Move) where
   pub successors_none : AreSuccessorsBelow profile StandsFor p legal 0 []

@@ -3,3 +3,4 @@ pub mod Rosters
 pub mod Follows
 pub mod ClassRows
 pub mod Bounds
+pub mod Outcomes

@@ -1,13 +1,13 @@
 // The classes of a family with what the sweeps need of them: their statuses and the numbers of their successors.
 ghost use Rattle.std.specs.Prelude.{◌≡◌, ◌<◌, ◌++◌, ℕ, List, IfOk};
-ghost use Rattle.dob_rank.specs.Families.{IsPositionOf};
 ghost use Rattle.dob_rank.specs.Families.{classes_of};
+ghost use Rattle.dob_value.specs.ClassRows.{class_setup};
 ghost use Rattle.dob_value.specs.Graphs.{ClassStandsFor, IsNode, IsGraph, status_at, successors_at};
 
-use crate::outcomes::class_after;
+use crate::outcomes::{class_after, representative_of};
 use dob_classes::Classes;
-use dob_moves::{MoveList, Status, moves_into};
-use dob_pieces::{Family, Memory, Position};
+use dob_moves::{Status, Walk};
+use dob_pieces::{Family, Memory};
 use std::alloc::Global;
 
 /// The statuses of the classes of a family, and the numbers of their successors in one list: those of a class stand from
@@ -40,27 +40,26 @@ impl Graph {
     }
 }
 
-// Appends the numbers of the classes to which the position's moves lead, and gives its status. The list of legal is
-// room for its moves.
+// Appends the numbers of the classes to which the moves of the class's representative lead, and gives its status. The walk is room for them.
 fn push_successors(
     classes: &Classes,
-    position: &Position,
-    legal: &mut MoveList,
+    number: u64,
+    walk: &mut Walk,
     successors: &mut Vec<usize>,
 ) -> Result<Status, Memory>
-    requires { IsPositionOf classes.now.family position.now.setup }
+    requires { number < classes_of classes.now.family }
     ensures { IfOk result (λ status. (numbers : List ℕ) × (successors.new.items ≡ successors.old.items ++ numbers)
-        × IsNode classes.now.family.profile (ClassStandsFor classes.now.family) position.now.setup status numbers) }
+        × IsNode classes.now.family.profile (ClassStandsFor classes.now.family) (class_setup classes.now.family number) status numbers) }
 {
-    let status = moves_into(classes.family.profile, legal, position);
-    for played in legal.iter() {
-        let number = class_after(classes, position, *played);
-        successors.push(number as usize)?;
+    let position = representative_of(classes, number);
+    let status = walk.start(classes.family.profile, &position);
+    for place in 0..walk.len() {
+        let outcome = class_after(classes, walk, place);
+        successors.push(outcome as usize)?;
     }
     Ok(status)
 }
 
-/// The graph of the classes.
 pub(crate) fn graph_of(alloc: Global, classes: &Classes) -> Result<Graph, Memory>
     ensures family { IfOk result (λ graph. graph.family ≡ classes.now.family) }
     ensures graph { IfOk result (λ graph. IsGraph graph) }
@@ -68,11 +67,10 @@ pub(crate) fn graph_of(alloc: Global, classes: &Classes) -> Result<Graph, Memory
     let mut statuses = Vec::new(alloc);
     let mut starts = Vec::new(alloc);
     let mut successors = Vec::new(alloc);
-    let mut legal = MoveList::new();
+    let mut walk = Walk::new();
     starts.push(0)?;
     for number in 0..classes.class_count() {
-        let position = classes.class_at(number);
-        let status = push_successors(classes, &position, &mut legal, &mut successors)?;
+        let status = push_successors(classes, number, &mut walk, &mut successors)?;
         statuses.push(status)?;
         starts.push(successors.len())?;
     }

@@ -15,7 +15,7 @@ mod position_value;
 mod sweep;
 mod table;
 
-pub use dob_distance::{Fault, MAX_DISTANCE, Value, code_of_value, value_of_code};
-pub use outcomes::{class_after, outcome_of};
+pub use dob_distance::{MAX_DISTANCE, Value, ValueFault as Fault, code_of_value, value_of_code};
+pub use outcomes::{class_after, class_of, outcome_at, outcome_of, representative_of};
 pub use position_value::{sweep_table, sweep_value};
 pub use table::Table;

@@ -13,7 +13,7 @@ ghost use Rattle.dob_value.specs.Bounds.{HasManyClasses};
 use crate::sweep::sweep;
 use crate::table::Table;
 use dob_classes::Classes;
-use dob_distance::{Fault, MAX_DISTANCE, Value};
+use dob_distance::{MAX_DISTANCE, Value, ValueFault};
 use dob_pieces::{Family, Memory, Position, Profile};
 use std::alloc::Global;
 
@@ -23,18 +23,17 @@ use std::alloc::Global;
 ///
 /// `TooDeep`, only if some position of the family is won or lost in more than `MAX_DISTANCE` plies, and the family
 /// has more classes than that; `Memory`.
-pub fn sweep_table(alloc: Global, family: Family) -> Result<Table, Fault>
+pub fn sweep_table(alloc: Global, family: Family) -> Result<Table, ValueFault>
     ensures family { IfOk result (λ table. table.family ≡ family) }
     ensures values { IfOk result (λ table. IsValueTable family table.values) }
-    ensures deep { IsErrOf result Fault.TooDeep → SomeTooDeep family.profile (IsPositionOf family) }
-    ensures many { IsErrOf result Fault.TooDeep → MAX_DISTANCE < classes_of family }
+    ensures deep { IsErrOf result ValueFault.TooDeep → SomeTooDeep family.profile (IsPositionOf family) }
+    ensures many { IsErrOf result ValueFault.TooDeep → MAX_DISTANCE < classes_of family }
 {
     let classes = Classes::open(alloc, family)?;
     let values = sweep(alloc, &classes)?;
     Ok(table_of(alloc, classes, &values)?)
 }
 
-// The table of the values of the classes.
 fn table_of(alloc: Global, classes: Classes, values: &[Value]) -> Result<Table, Memory>
     requires values { AreValues classes.family values.now }
     requires entries { All IsEntry values.now }
@@ -55,11 +54,15 @@ fn table_of(alloc: Global, classes: Classes, values: &[Value]) -> Result<Table, 
 ///
 /// `TooDeep`, only if some position with the same pieces is won or lost in more than `MAX_DISTANCE` plies, and these
 /// have more classes than that; `Memory`.
-pub fn sweep_value(alloc: Global, profile: Profile, position: &Position) -> Result<Value, Fault>
+pub fn sweep_value(
+    alloc: Global,
+    profile: Profile,
+    position: &Position,
+) -> Result<Value, ValueFault>
     requires { IsAllowed profile position.now.setup }
     ensures value { IfOk result (λ value. HasValue profile position.now.setup value) }
-    ensures deep { IsErrOf result Fault.TooDeep → SomeTooDeep profile (HasSamePieces profile position.now.setup) }
-    ensures many { IsErrOf result Fault.TooDeep → HasManyClasses profile position.now.setup }
+    ensures deep { IsErrOf result ValueFault.TooDeep → SomeTooDeep profile (HasSamePieces profile position.now.setup) }
+    ensures many { IsErrOf result ValueFault.TooDeep → HasManyClasses profile position.now.setup }
 {
     let family = Family {
         set: position.piece_set(),

@@ -14,11 +14,10 @@ ghost use Rattle.dob_value.specs.Rosters.{SomeTooDeep};
 
 use crate::graph::{Graph, graph_of};
 use dob_classes::Classes;
-use dob_distance::{Fault, MAX_DISTANCE, Value};
+use dob_distance::{MAX_DISTANCE, Value, ValueFault};
 use dob_moves::Status;
 use std::alloc::{AllocError, Global};
 
-/// The entry with that number.
 pub(crate) fn entry_at(values: &[Value], number: usize) -> Value
     requires { number < length values.now }
     ensures { result ≡ slice_index_or values.now number Draw }
@@ -137,19 +136,19 @@ fn first_values(alloc: Global, statuses: &[Status]) -> Result<Vec<Value>, AllocE
 // The value of each class of the graph. It sweeps until nothing changes.
 //
 // Errors: `TooDeep` if some distance is above `MAX_DISTANCE`, as then is the number of classes, and `Memory`.
-fn settle(alloc: Global, graph: &Graph) -> Result<Vec<Value>, Fault>
+fn settle(alloc: Global, graph: &Graph) -> Result<Vec<Value>, ValueFault>
     requires { IsGraph graph.now }
     ensures values { IfOk result (λ values. AreValues graph.now.family values.items) }
     ensures short { IfOk result (λ values. All IsShort values.items) }
-    ensures deep { result ≡ Err Fault.TooDeep → (n : ℕ) × (MAX_DISTANCE < n) × SomeHasDistance graph.now.family n }
-    ensures many { result ≡ Err Fault.TooDeep → MAX_DISTANCE < classes_of graph.now.family }
+    ensures deep { result ≡ Err ValueFault.TooDeep → (n : ℕ) × (MAX_DISTANCE < n) × SomeHasDistance graph.now.family n }
+    ensures many { result ≡ Err ValueFault.TooDeep → MAX_DISTANCE < classes_of graph.now.family }
 {
     let mut values = first_values(alloc, &graph.statuses)?;
     let mut depth = 0;
     while sweep_once(graph, depth, &mut values) {
         depth += 1;
         if depth > MAX_DISTANCE {
-            return Err(Fault::TooDeep);
+            return Err(ValueFault::TooDeep);
         }
     }
     Ok(values)
@@ -160,11 +159,11 @@ fn settle(alloc: Global, graph: &Graph) -> Result<Vec<Value>, Fault>
 /// # Errors
 ///
 /// `TooDeep` if some distance is above `MAX_DISTANCE`, as then is the number of classes, and `Memory`.
-pub(crate) fn sweep(alloc: Global, classes: &Classes) -> Result<Vec<Value>, Fault>
+pub(crate) fn sweep(alloc: Global, classes: &Classes) -> Result<Vec<Value>, ValueFault>
     ensures values { IfOk result (λ values. AreValues classes.now.family values.items) }
     ensures entries { IfOk result (λ values. All IsEntry values.items) }
-    ensures deep { result ≡ Err Fault.TooDeep → SomeTooDeep classes.now.family.profile (IsPositionOf classes.now.family) }
-    ensures many { result ≡ Err Fault.TooDeep → MAX_DISTANCE < classes_of classes.now.family }
+    ensures deep { result ≡ Err ValueFault.TooDeep → SomeTooDeep classes.now.family.profile (IsPositionOf classes.now.family) }
+    ensures many { result ≡ Err ValueFault.TooDeep → MAX_DISTANCE < classes_of classes.now.family }
 {
     let graph = graph_of(alloc, classes)?;
     settle(alloc, &graph)

@@ -1,14 +1,17 @@
 // Tables of a family: a value for each of its classes.
 ghost use Rattle.std.specs.Prelude.{◌≡◌, ◌<◌, ℕ, All, Some, IfOk, length, slice_get};
 ghost use Rattle.dob_distance.specs.declared.value.Value.{Value};
+ghost use Rattle.dob_moves.specs.Shown.{setup_on};
 ghost use Rattle.dob_rank.specs.Families.{IsPositionOf, HasClasses};
 ghost use Rattle.dob_rank.specs.Families.{classes_of};
 ghost use Rattle.dob_distance.specs.Codes.{values_of_codes, IsEntry};
 ghost use Rattle.dob_value.specs.Follows.{ClassTable, HasInTable, IsTable, AreGiven, class_table};
 
+use crate::outcomes::class_of;
 use dob_classes::Classes;
 use dob_distance::{Value, code_of_value, value_of_code};
 use dob_lists::{SegmentLength, Segments};
+use dob_moves::PositionBoard;
 use dob_pieces::{Family, Memory, Position};
 use std::alloc::Global;
 use std::marker::Model;
@@ -103,7 +106,15 @@ impl Table {
         requires { IsPositionOf self.now.family position.now.setup }
         ensures { HasInTable self.now.family self.now.values position.now.setup result }
     {
-        let number = self.classes.class_of(position);
+        self.value_on(&PositionBoard::of(position))
+    }
+
+    /// The value of the class of the position on that board.
+    pub fn value_on(&self, position: &PositionBoard) -> Value
+        requires { IsPositionOf self.now.family (setup_on position.now.board) }
+        ensures { HasInTable self.now.family self.now.values (setup_on position.now.board) result }
+    {
+        let number = class_of(&self.classes, position);
         value_of_code(self.codes.get(number))
     }
 }

@@ -13,5 +13,5 @@ pub use Rattle.dob_shelf.specs.declared.shelf.ShelfFault.{ShelfFault}
 pub use Rattle.dob_files.specs.Faults.{fault_of_shelf, is_io}
 pub use Rattle.dob_files.specs.Keeping.{AreThese, FillsSink, IsShelfFault, LeavesFiles}
 pub use Rattle.dob_files.specs.Tables.{IsFileOf, IsOpeningFault, IsTextOf}
-pub use Rattle.dob_files.specs.declared.fault.Fault.{Fault}
-pub use Rattle.dob_files.specs.declared.fault.Fault.TheVariants.{Certificate, Io, Memory, Table, Text}
+pub use Rattle.dob_files.specs.declared.fault.ProgramFault.{ProgramFault}
+pub use Rattle.dob_files.specs.declared.fault.ProgramFault.TheVariants.{Certificate, Io, Memory, Table, Text}

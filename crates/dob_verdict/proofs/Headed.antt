@@ -1,5 +1,5 @@
 -- What the header of a file says: of the bytes that were read, of the source and of the file.
-use Rattle.dob_verdict.proofs.Common.{◌∙◌, ◌≡◌, Bool, List, inl, inr, sym, ℕ, ShelfFault, fault_of_shelf, Fault}
+use Rattle.dob_verdict.proofs.Common.{◌∙◌, ◌≡◌, Bool, List, inl, inr, sym, ℕ, ShelfFault, fault_of_shelf, ProgramFault}
 use Rattle.dob_verdict.proofs.Common.{Certificate, Io, Memory}
 use Rattle.std.specs.Prelude.{◌++◌, ◌≤◌, ◌∷◌, [], length, take}
 use Rattle.std.specs.Fmt.{decimal}
@@ -13,7 +13,7 @@ use Rattle.dob_certfile.specs.Reading.{front_at}
 use Rattle.dob_device.specs.Devices.{Fills, Stream, whole}
 use Rattle.dob_files.proofs.TableFaults.{is_shut}
 use Rattle.dob_files.specs.declared.certificate_fault.CertificateFault.TheVariants.{Defect}
-use Rattle.dob_files.specs.declared.fault.Fault.TheVariants.{File}
+use Rattle.dob_files.specs.declared.fault.ProgramFault.TheVariants.{File}
 use Rattle.dob_shelf.specs.declared.shelf.ShelfFault.TheVariants as shelf_fault
 use Rattle.dob_verdict.specs.Headers.{AreInfoLines, IsDefectOf, IsFrontFault, IsInfoFault}
 
@@ -30,7 +30,7 @@ front_read n bytes room count long within fills = elim (eq-or-lt_of_le within) [
 -- ---- what stands before a certificate's entries
 
 -- what is wrong with the bytes that were read is wrong with the file's
-pub defect_fronts : (Has : List ℕ → Type 0) (front : List ℕ) → ((bytes : List ℕ) → Has bytes → front ≡ take 28 bytes) → (fault : Fault)
+pub defect_fronts : (Has : List ℕ → Type 0) (front : List ℕ) → ((bytes : List ℕ) → Has bytes → front ≡ take 28 bytes) → (fault : ProgramFault)
     → IsDefectOf front fault → IsFrontFault Has fault
 defect_fronts Has front is (Certificate (Defect d)) holds = λ bytes has. ap front_at (sym (is bytes has)) ∙ holds
 defect_fronts Has front is fault holds = absurd holds
@@ -42,7 +42,7 @@ module _ (Has Also : List ℕ → Type 0) (also : (bytes : List ℕ) → Has byt
   pub lines_weaker : (is_object : Bool) (lines : List ℕ) → AreInfoLines Also is_object lines → AreInfoLines Has is_object lines
   lines_weaker is_object lines told = (told.0, λ bytes has. told.1 bytes (also bytes has), told.2)
 
-  pub fault_weaker : (fault : Fault) → IsInfoFault Also fault → IsInfoFault Has fault
+  pub fault_weaker : (fault : ProgramFault) → IsInfoFault Also fault → IsInfoFault Has fault
   fault_weaker (File f) holds = λ bytes has. holds bytes (also bytes has)
   fault_weaker (Certificate (Defect d)) holds = λ bytes has. holds bytes (also bytes has)
   fault_weaker Memory holds = tt
@@ -55,7 +55,6 @@ pub shelf_info : (Has : List ℕ → Type 0) (lower : ShelfFault) → ((bytes : 
 shelf_info Has lower found = grind (arith, is_shut Has)
 
 -- ---- texts
-
 digit_told : (n : ℕ) → n ≤ 2 → decimal n ≡ digit n ∷ []
 digit_told n few = decimal_digit n (omega (arith, few))
 

@@ -19,21 +19,22 @@ use Rattle.dob_certificate.specs.Claims.{Holds, Prove}
 use Rattle.dob_certificate.specs.Refusals as lists
 use Rattle.dob_certfile.specs.Format.{Content, Fits, bytes_of}
 use Rattle.dob_certfile.specs.Reading.{HasCertFault}
-use Rattle.dob_certify.specs.declared.fault.Fault as making
-use Rattle.dob_certify.specs.declared.fault.Fault.TheVariants as making_fault
+use Rattle.dob_certfile.specs.declared.defect.Defect.{Defect as AnyDefect}
+use Rattle.dob_certify.specs.declared.fault.MakingFault.{MakingFault}
+use Rattle.dob_certify.specs.declared.fault.MakingFault.TheVariants as making_fault
 use Rattle.dob_certify.specs.declared.making.Certified.{Certified}
 use Rattle.dob_certify.specs.Made.{IsMade}
 use Rattle.dob_certify.specs.Faults.{IsTooMany, IsUnproved}
 use Rattle.dob_files.specs.declared.certificate_fault.CertificateFault.TheVariants.{Defect, Unproved, TooMany, Unfit}
-use Rattle.dob_files.specs.declared.fault.Fault.{Fault}
-use Rattle.dob_files.specs.declared.fault.Fault.TheVariants.{Text, File, Table, Certificate, Memory, Io}
+use Rattle.dob_files.specs.declared.fault.ProgramFault.{ProgramFault}
+use Rattle.dob_files.specs.declared.fault.ProgramFault.TheVariants.{Text, File, Table, Certificate, Memory, Io}
 use Rattle.dob_lines.specs.Tallies.{count_line}
 use Rattle.dob_files.specs.Owed.{Owed, file_owed, lines_owed}
 use Rattle.dob_files.specs.Tables.{HasFileFault, IsFileOf, IsShut, IsTextOf}
 use Rattle.dob_shelf.specs.Shelves.{HasJust, SameFiles, SameOthers, ShelfChange}
 
 -- a fault of making a certificate, as the program's
-abbrev pub fault_of_making : making.Fault → Fault
+abbrev pub fault_of_making : MakingFault → ProgramFault
 fault_of_making (making_fault.Table fault) = Table fault
 fault_of_making (making_fault.Unproved refusal) = Certificate (Unproved refusal)
 fault_of_making (making_fault.TooMany most) = Certificate (TooMany most)
@@ -60,15 +61,13 @@ claim_line profile p claim = text_of p ++ (space ∷ (claim_text claim ++ (rules
 
 -- ---- the file of a certificate; Has says which bytes it has, where that is known
 
--- these are its bytes
-abbrev pub AreBytes : (List ℕ → Type 0) → List ℕ → Type 0
-AreBytes Has found = (bytes : List ℕ) → Has bytes → found ≡ bytes
+-- these are the bytes, or so many of them that their first fault is that of all
+abbrev pub ReadsAs : List ℕ → List ℕ → Type 0
+ReadsAs found bytes = (found ≡ bytes) ⊎ ((defect : AnyDefect) × HasCertFault found defect × HasCertFault bytes defect)
 
--- a fault of reading bytes: memory failed, or the file couldn't be opened or read
-abbrev pub IsBytesFault : (List ℕ → Type 0) → Fault → Type 0
-IsBytesFault Has Memory = Unit {0}
-IsBytesFault Has Io = IsShut Has
-IsBytesFault Has _ = ⊥
+-- so they are of its bytes
+abbrev pub AreBytes : (List ℕ → Type 0) → List ℕ → Type 0
+AreBytes Has found = (bytes : List ℕ) → Has bytes → ReadsAs found bytes
 
 -- the file says this
 pub record IsCertificateFile (Has : List ℕ → Type 0) (said : Content) : Type 0 where
@@ -76,7 +75,7 @@ pub record IsCertificateFile (Has : List ℕ → Type 0) (said : Content) : Type
   pub same : (bytes : List ℕ) → Has bytes → bytes ≡ bytes_of said
 
 -- a fault of reading it: the first that its bytes have, or memory failed, or it couldn't be opened or read
-abbrev pub IsReadingFault : (List ℕ → Type 0) → Fault → Type 0
+abbrev pub IsReadingFault : (List ℕ → Type 0) → ProgramFault → Type 0
 IsReadingFault Has (Certificate (Defect defect)) = (bytes : List ℕ) → Has bytes → HasCertFault bytes defect
 IsReadingFault Has Memory = Unit {0}
 IsReadingFault Has Io = IsShut Has
@@ -98,7 +97,7 @@ pub record IsDisproved (said : Content) (refusal : Refusal) : Type 0 where
   pub represents : RepresentsClass said.family position said.root
   pub refused : lists.IsRefusal said.family said.lost said.held position said.claim refusal
 
-abbrev pub IsVerdictFault : Content → Fault → Type 0
+abbrev pub IsVerdictFault : Content → ProgramFault → Type 0
 IsVerdictFault said (Certificate (Unproved refusal)) = IsDisproved said refusal
 IsVerdictFault said Memory = Unit {0}
 IsVerdictFault said _ = ⊥
@@ -108,7 +107,7 @@ abbrev pub IsVerifyLine : (List ℕ → Type 0) → List ℕ → Type 0
 IsVerifyLine Has line = (said : Content) × IsCertificateFile Has said × IsVerdict said line
 
 -- a fault of verifying a file: one of reading it, or its lists don't prove what it claims
-abbrev pub IsVerifyFault : (List ℕ → Type 0) → Fault → Type 0
+abbrev pub IsVerifyFault : (List ℕ → Type 0) → ProgramFault → Type 0
 IsVerifyFault Has (Certificate (Unproved refusal)) = (said : Content) × IsCertificateFile Has said × IsDisproved said refusal
 IsVerifyFault Has fault = IsReadingFault Has fault
 
@@ -152,14 +151,14 @@ pub record AreCertifyLines (c : ShelfChange) (file out : List ℕ) (is_exact : B
   pub same : lines ≡ made_lines position said
 
 -- why no file says it: it can't, or memory failed
-abbrev pub IsUnfit : Content → Fault → Type 0
+abbrev pub IsUnfit : Content → ProgramFault → Type 0
 IsUnfit said (Certificate Unfit) = ¬ Fits said
 IsUnfit said Memory = Unit {0}
 IsUnfit said _ = ⊥
 
 -- a fault of making a certificate of the position, in this order: the file's; E26 before E7; more entries than there may be; lists that don't prove the
 -- claim; a file that can't say it
-abbrev pub IsMakingFault : (List ℕ → Type 0) → Bool → ℕ → Setup → Fault → Type 0
+abbrev pub IsMakingFault : (List ℕ → Type 0) → Bool → ℕ → Setup → ProgramFault → Type 0
 IsMakingFault Has is_exact most position (File fault) = HasFileFault Has fault
 IsMakingFault Has is_exact most position (Table fault) = (table : ClassTable) × IsFileOf Has table × by_table.IsRefusal table.family position fault
 IsMakingFault Has is_exact most position (Certificate (Unproved refusal)) =
@@ -170,7 +169,7 @@ IsMakingFault Has is_exact most position (Certificate Unfit) = (said : Content) 
 IsMakingFault Has is_exact most position _ = ⊥
 
 -- the same by the table that was read; or memory was refused, or the other file isn't written
-abbrev pub IsTableMakingFault : ClassTable → Bool → ℕ → Setup → Fault → Type 0
+abbrev pub IsTableMakingFault : ClassTable → Bool → ℕ → Setup → ProgramFault → Type 0
 IsTableMakingFault table is_exact most position (Table fault) = by_table.IsRefusal table.family position fault
 IsTableMakingFault table is_exact most position (Certificate (Unproved refusal)) = IsUnproved table is_exact position most refusal
 IsTableMakingFault table is_exact most position (Certificate (TooMany number)) = IsTooMany table position most number
@@ -186,7 +185,7 @@ AreMade table is_exact most position lines bytes =
 
 -- The fault of certifying, in this order: the text is no position's; the database file has a fault or couldn't be opened; the other one couldn't be made, which
 -- shows before the work, or not be written or kept; making a certificate of the position failed. Or memory was refused. Each file has what it had.
-abbrev pub IsCertifyFault : ShelfChange → List ℕ → Bool → ℕ → List ℕ → Fault → Type 0
+abbrev pub IsCertifyFault : ShelfChange → List ℕ → Bool → ℕ → List ℕ → ProgramFault → Type 0
 IsCertifyFault c file is_exact most words (Text fault) = HasTextFault A words fault × SameFiles c.before.has c.after.has
 IsCertifyFault c file is_exact most words Memory = SameFiles c.before.has c.after.has
 IsCertifyFault c file is_exact most words Io = (position : Setup) × IsTextOf words position
@@ -195,7 +194,6 @@ IsCertifyFault c file is_exact most words fault = (position : Setup) × IsTextOf
     × IsMakingFault (c.before.has file) is_exact most position fault × SameFiles c.before.has c.after.has
 
 -- ---- what the program owes
-
 abbrev pub verify_owed : List ℕ → Owed
 verify_owed file = file_owed file IsVerifyLine IsVerifyFault
 

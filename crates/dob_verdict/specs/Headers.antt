@@ -20,14 +20,13 @@ use Rattle.dob_certfile.specs.declared.defect.Defect.{Defect as AnyDefect}
 use Rattle.dob_certfile.specs.Format.{certificate_title}
 use Rattle.dob_certfile.specs.Reading.{FrontContent, front_at}
 use Rattle.dob_files.specs.declared.certificate_fault.CertificateFault.TheVariants.{Defect}
-use Rattle.dob_files.specs.declared.fault.Fault.{Fault}
-use Rattle.dob_files.specs.declared.fault.Fault.TheVariants.{File, Certificate, Memory, Io}
+use Rattle.dob_files.specs.declared.fault.ProgramFault.{ProgramFault}
+use Rattle.dob_files.specs.declared.fault.ProgramFault.TheVariants.{File, Certificate, Memory, Io}
 use Rattle.dob_files.specs.Owed.{Owed, file_owed}
 use Rattle.dob_files.specs.Tables.{IsShut}
 use Rattle.dob_verdict.specs.Certificates.{claim_text}
 
 -- ---- what a header says
-
 pub data Header : Type 0 where
   -- a table, in that format and of that family
   of_table : Format → Family → Header
@@ -45,7 +44,6 @@ IsHeaderOf bytes (of_certificate front position) =
     (is_certificate bytes ≡ true) × (front_at (take 28 bytes) ≡ Ok front) × RepresentsClass front.family position front.root
 
 -- ---- how it is told
-
 abbrev pub rules_name : Profile → List ℕ
 rules_name A = codes "A"
 rules_name B = codes "B"
@@ -106,7 +104,7 @@ abbrev pub IsFrontDefect : List ℕ → AnyDefect → Type 0
 IsFrontDefect bytes defect = (is_certificate bytes ≡ true) × (front_at (take 28 bytes) ≡ Err defect)
 
 -- a fault of asking a file: its header's, or memory failed, or it couldn't be opened or read
-abbrev pub IsInfoFault : (List ℕ → Type 0) → Fault → Type 0
+abbrev pub IsInfoFault : (List ℕ → Type 0) → ProgramFault → Type 0
 IsInfoFault Has (File fault) = (bytes : List ℕ) → Has bytes → IsTableFault bytes fault
 IsInfoFault Has (Certificate (Defect defect)) = (bytes : List ℕ) → Has bytes → IsFrontDefect bytes defect
 IsInfoFault Has Memory = Unit {0}
@@ -117,11 +115,11 @@ abbrev pub info_owed : List ℕ → Bool → Owed
 info_owed file is_object = file_owed file (λ Has. AreInfoLines Has is_object) IsInfoFault
 
 -- a fault of the bytes before the entries that were read of it
-abbrev pub IsDefectOf : List ℕ → Fault → Type 0
+abbrev pub IsDefectOf : List ℕ → ProgramFault → Type 0
 IsDefectOf front (Certificate (Defect defect)) = front_at front ≡ Err defect
 IsDefectOf front _ = ⊥
 
-abbrev pub IsFrontFault : (List ℕ → Type 0) → Fault → Type 0
+abbrev pub IsFrontFault : (List ℕ → Type 0) → ProgramFault → Type 0
 IsFrontFault Has (Certificate (Defect defect)) = (bytes : List ℕ) → Has bytes → front_at (take 28 bytes) ≡ Err defect
 IsFrontFault Has Io = IsShut Has
 IsFrontFault Has _ = ⊥

@@ -18,8 +18,8 @@ use Rattle.dob_certify.specs.declared.replies.Reply.{Reply}
 use Rattle.dob_certify.specs.declared.replies.Reply.TheVariants.{Win, Loss}
 use Rattle.dob_certify.specs.Replies.{IsReply, IsRight}
 use Rattle.dob_files.specs.declared.certificate_fault.CertificateFault.TheVariants.{Unproved, Unlisted}
-use Rattle.dob_files.specs.declared.fault.Fault.{Fault}
-use Rattle.dob_files.specs.declared.fault.Fault.TheVariants.{Text, Table, Certificate, Memory}
+use Rattle.dob_files.specs.declared.fault.ProgramFault.{ProgramFault}
+use Rattle.dob_files.specs.declared.fault.ProgramFault.TheVariants.{Text, Table, Certificate, Memory}
 use Rattle.dob_verdict.specs.Certificates.{IsCertificateFile, IsReadingFault}
 use Rattle.dob_files.specs.Owed.{Owed, file_owed}
 use Rattle.dob_files.specs.Tables.{IsTextOf}
@@ -56,7 +56,7 @@ IsListRefusal said (refusal.Unsupported class) = IsFirstUnsupported (SupportsLos
 IsListRefusal said refusal.Claim = ⊥
 
 -- a fault of asking it: the position isn't one of its family, E26 before E7; or its lost list isn't believed; or it says nothing; or memory failed
-abbrev pub IsReplyFault : Content → Setup → Fault → Type 0
+abbrev pub IsReplyFault : Content → Setup → ProgramFault → Type 0
 IsReplyFault said p (Table fault) = by_table.IsRefusal said.family p fault
 IsReplyFault said p (Certificate (Unproved refusal)) = IsPositionOf said.family p × IsListRefusal said refusal
 IsReplyFault said p (Certificate Unlisted) = IsReplyOf said p None
@@ -64,7 +64,6 @@ IsReplyFault said p Memory = Unit {0}
 IsReplyFault said p _ = ⊥
 
 -- ---- of a file and a text
-
 pub record IsReplyLine (Has : List ℕ → Type 0) (words line : List ℕ) : Type 0 where
   pub said : Content
   pub read : IsCertificateFile Has said
@@ -73,7 +72,7 @@ pub record IsReplyLine (Has : List ℕ → Type 0) (words line : List ℕ) : Typ
   pub told : IsToldReply said position line
 
 -- a fault of asking a file: the text's; or one of reading the file, or of asking the certificate, only where the text is a position's
-abbrev pub IsReplyFaultOf : (List ℕ → Type 0) → List ℕ → Fault → Type 0
+abbrev pub IsReplyFaultOf : (List ℕ → Type 0) → List ℕ → ProgramFault → Type 0
 IsReplyFaultOf Has words (Text fault) = HasTextFault A words fault
 IsReplyFaultOf Has words fault = (position : Setup) × IsTextOf words position
     × (IsReadingFault Has fault ⊎ ((said : Content) × IsCertificateFile Has said × IsReplyFault said position fault))

@@ -1,23 +1,28 @@
 // What a certificate's file proves.
-ghost use Rattle.std.specs.Prelude.{◌≡◌, ◌++◌, ◌∷◌, [], IfOk, IfErr, string_bytes};
+ghost use Rattle.std.specs.Prelude.{◌≡◌, ◌+◌, ◌*◌, ◌++◌, ◌∷◌, [], IfOk, IfErr, false, string_bytes};
 ghost use Rattle.dob_pieces.specs.Bytes.{line_feed, space};
 ghost use Rattle.dob_rank.specs.Families.{IsPositionOf};
 ghost use Rattle.dob_certificate.specs.Claims.{Holds, Prove};
 ghost use Rattle.dob_certificate.specs.Refusals.{IsRefusal};
 ghost use Rattle.dob_certfile.specs.Format.{Fits, content};
+ghost use Rattle.dob_dbfile.specs.Faults.{fails};
+ghost use Rattle.dob_device.specs.Devices.{whole};
+ghost use Rattle.dob_files.specs.Faults.{is_io};
 ghost use Rattle.dob_shelf.specs.Shelves.{Leaving, SameFiles};
 ghost use Rattle.dob_files.specs.Endings.{GivesOver};
 ghost use Rattle.dob_files.specs.Owed.{GivesOwed};
-ghost use Rattle.dob_verdict.specs.Certificates.{AreBytes, IsBytesFault, IsCertificateFile, IsReadingFault, IsVerdict, IsVerdictFault, claim_line, claim_text, rules_said, verify_owed};
+ghost use Rattle.dob_verdict.specs.Certificates.{AreBytes, IsCertificateFile, IsReadingFault, IsVerdict, IsVerdictFault, claim_line, claim_text, rules_said, verify_owed};
 
-use dob_certfile::{CertificateFile, read_certificate};
+use crate::headers::front_in;
+use dob_certfile::{CertificateFile, FRONT_LEN, Front, read_certificate};
 use dob_certificate::{Claim, Refusal};
 use dob_check::verify_watched;
 use dob_classes::Classes;
-use dob_files::{Answer, Fault};
+use dob_dbfile::{Source, read_full};
+use dob_files::{Answer, ProgramFault};
 use dob_lines::{Console, Progress};
 use dob_pieces::{Memory, Position, Profile};
-use dob_shelf::{Shelf, read_all};
+use dob_shelf::{Shelf, read_up_to};
 use dob_text::write_position;
 use dob_value::Value;
 use std::alloc::Global;
@@ -81,12 +86,11 @@ fn check_certificate(
     checked
 }
 
-/// The certificate of the file.
 pub(crate) fn open_certificate<S: Shelf>(
     alloc: Global,
     shelf: &mut S,
     file: &str,
-) -> Result<CertificateFile, Fault>
+) -> Result<CertificateFile, ProgramFault>
     ensures { Leaving SameFiles S.state shelf.old shelf.new (λ c.
         GivesOver c (λ certificate. IsCertificateFile (c.before.has file.now) (content certificate)) (IsReadingFault (c.before.has file.now)) result) }
 {
@@ -94,15 +98,50 @@ pub(crate) fn open_certificate<S: Shelf>(
     Ok(read_certificate(alloc, &bytes)?)
 }
 
-// The bytes of the file.
-fn bytes_named<S: Shelf>(alloc: Global, shelf: &mut S, file: &str) -> Result<Vec<u8>, Fault>
+// The bytes of the file, if what stands before the entries is right; of one that goes on too long no more than shows that.
+fn bytes_named<S: Shelf>(alloc: Global, shelf: &mut S, file: &str) -> Result<Vec<u8>, ProgramFault>
     ensures { Leaving SameFiles S.state shelf.old shelf.new (λ c.
-        GivesOver c (λ bytes. AreBytes (c.before.has file.now) bytes.items) (IsBytesFault (c.before.has file.now)) result) }
+        GivesOver c (λ bytes. AreBytes (c.before.has file.now) bytes.items) (IsReadingFault (c.before.has file.now)) result) }
 {
     let mut source = shelf.find(file)?;
-    let read = read_all(alloc, &mut source);
+    let read = bytes_in(alloc, &mut source);
     shelf.close(source);
-    Ok(read?)
+    read
+}
+
+// The same by a source that is new. What stands before the entries is looked at before more is read: of a file of something else no more is, and it says how
+// much that may be.
+fn bytes_in<R: Source>(alloc: Global, source: &mut R) -> Result<Vec<u8>, ProgramFault>
+    requires { R.has_failed source.old ≡ false }
+    ensures bytes { IfOk result (λ read. AreBytes (λ bytes. R.gives source.old (whole bytes)) read.items) }
+    ensures fault { IfErr result (IsReadingFault (λ bytes. R.gives source.old (whole bytes))) }
+    ensures failed { R.has_failed source.new ≡ fails is_io result }
+{
+    let mut room = [0; FRONT_LEN];
+    let count = match read_full(source, &mut room) {
+        Ok(count) => count,
+        Err(_failed) => return Err(ProgramFault::Io),
+    };
+    let front = front_in(&room[..count])?;
+    let rest = read_up_to(alloc, source, most_behind(front))?;
+    Ok(joined(alloc, &room[..count], &rest)?)
+}
+
+// How many bytes stand behind the front at most: six for each entry, and the digest.
+fn most_behind(front: Front) -> u64
+    ensures { result ≡ 6 * front.held_count + 6 * front.lost_count + 32 }
+{
+    6 * front.held_count as u64 + 6 * front.lost_count as u64 + 32
+}
+
+// The bytes of both, one behind the other.
+fn joined(alloc: Global, front: &[u8], rest: &[u8]) -> Result<Vec<u8>, Memory>
+    ensures { IfOk result (λ bytes. bytes.items ≡ front.now ++ rest.now) }
+{
+    let mut bytes = Vec::new(alloc);
+    bytes.extend_from_slice(front)?;
+    bytes.extend_from_slice(rest)?;
+    Ok(bytes)
 }
 
 /// The line that says what is claimed of the position, and by which rules.
@@ -126,7 +165,6 @@ fn joined_line(alloc: Global, text: &str, claimed: &str, rules: &str) -> Result<
     Ok(format!(in alloc; "{text} {claimed}{rules}\n")?)
 }
 
-// What is said of the rules.
 fn rules_said(profile: Profile) -> &'static str
     ensures { result.now ≡ rules_said profile }
 {
@@ -136,7 +174,6 @@ fn rules_said(profile: Profile) -> &'static str
     }
 }
 
-/// What is claimed.
 pub(crate) fn claim_text(alloc: Global, claim: Claim) -> Result<String, Memory>
     ensures { IfOk result (λ text. string_bytes text ≡ claim_text claim) }
 {

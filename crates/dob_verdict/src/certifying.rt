@@ -18,7 +18,7 @@ use dob_certfile::{CertificateFile, WriteFault, certificate_bytes};
 use dob_certify::{Certified, certify, rounds_of};
 use dob_classes::Classes;
 use dob_device::Sink;
-use dob_files::{Answer, CertificateFault, Fault, fill, keep_filled, open, position_named};
+use dob_files::{Answer, CertificateFault, ProgramFault, fill, keep_filled, open, position_named};
 use dob_lines::{Console, Progress};
 use dob_pieces::{Memory, Position};
 use dob_probe::probe;
@@ -71,16 +71,18 @@ fn fill_certificate<D: Sink>(
 }
 
 // The fault of making a certificate, as the program's.
-fn fault_of_making(given: dob_certify::Fault) -> Fault
+fn fault_of_making(given: dob_certify::MakingFault) -> ProgramFault
     ensures { result ≡ fault_of_making given }
 {
     match given {
-        dob_certify::Fault::Table(fault) => Fault::Table(fault),
-        dob_certify::Fault::Unproved(refusal) => {
-            Fault::Certificate(CertificateFault::Unproved(refusal))
+        dob_certify::MakingFault::Table(fault) => ProgramFault::Table(fault),
+        dob_certify::MakingFault::Unproved(refusal) => {
+            ProgramFault::Certificate(CertificateFault::Unproved(refusal))
         }
-        dob_certify::Fault::TooMany(most) => Fault::Certificate(CertificateFault::TooMany(most)),
-        dob_certify::Fault::Memory => Fault::Memory,
+        dob_certify::MakingFault::TooMany(most) => ProgramFault::Certificate(
+            CertificateFault::TooMany(most),
+        ),
+        dob_certify::MakingFault::Memory => ProgramFault::Memory,
     }
 }
 
@@ -98,7 +100,7 @@ fn made_file(
     table: &Table,
     position: &Position,
     order: CertifyOrder<'_>,
-) -> Result<CertificateFile, dob_certify::Fault>
+) -> Result<CertificateFile, dob_certify::MakingFault>
     ensures made { IfOk result (λ file. IsSaidOf table.now order.entry.is_exact (most_entries order.entry.most) position.now.setup (content file)) }
     ensures fault { IfErr result (IsFault table.now order.entry.is_exact position.now.setup (most_entries order.entry.most)) }
 {
@@ -119,7 +121,7 @@ fn made_watched(
     table: &Table,
     position: &Position,
     order: CertifyOrder<'_>,
-) -> Result<Certified, dob_certify::Fault>
+) -> Result<Certified, dob_certify::MakingFault>
     ensures made { IfOk result (IsMade table.now order.entry.is_exact (most_entries order.entry.most) position.now.setup) }
     ensures holds { IfOk result (λ made. Holds table.now.family.profile position.now.setup made.claim) }
     ensures member { OnOk result (IsPositionOf table.now.family position.now.setup) }
@@ -156,7 +158,6 @@ fn rounds_at(table: &Table, position: &Position, is_exact: bool) -> u64
     }
 }
 
-// The number of the position's class.
 fn root_of(classes: &Classes, position: &Position) -> u32
     requires { IsPositionOf classes.now.family position.now.setup }
     ensures { IsInClass classes.now.family position.now.setup result }
@@ -182,14 +183,13 @@ fn counted_lines(alloc: Global, line: &str, lost: usize, held: usize) -> Result<
     Ok(format!(in alloc; "{line}lost {lost}\nheld {held}\n")?)
 }
 
-// The bytes of the file.
-fn bytes_of(alloc: Global, file: &CertificateFile) -> Result<Vec<u8>, Fault>
+fn bytes_of(alloc: Global, file: &CertificateFile) -> Result<Vec<u8>, ProgramFault>
     ensures bytes { IfOk result (λ bytes. bytes.items ≡ bytes_of (content file.now)) }
     ensures fault { IfErr result (IsUnfit (content file.now)) }
 {
     match certificate_bytes(alloc, file) {
         Ok(bytes) => Ok(bytes),
-        Err(WriteFault::Unfit) => Err(Fault::Certificate(CertificateFault::Unfit)),
-        Err(WriteFault::Memory | WriteFault::Io(_)) => Err(Fault::Memory),
+        Err(WriteFault::Unfit) => Err(ProgramFault::Certificate(CertificateFault::Unfit)),
+        Err(WriteFault::Memory | WriteFault::Io(_)) => Err(ProgramFault::Memory),
     }
 }

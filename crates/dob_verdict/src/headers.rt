@@ -15,7 +15,7 @@ use crate::certificates::claim_text;
 use dob_certfile::{FRONT_LEN, Front, front_of, is_title};
 use dob_classes::{Classes, count_classes};
 use dob_dbfile::{Failed, Format, PlacedSource, Source, read_classes, read_full};
-use dob_files::{Answer, CertificateFault, Fault};
+use dob_files::{Answer, CertificateFault, ProgramFault};
 use dob_pieces::{Family, Memory, PieceSet, Position, Profile};
 use dob_shelf::Shelf;
 use dob_text::write_position;
@@ -51,21 +51,21 @@ fn info_lines<R: PlacedSource>(alloc: Global, source: &mut R, is_object: bool) -
 }
 
 // Whether the source begins as a certificate. It is at its first byte then.
-fn begins_certificate<R: PlacedSource>(source: &mut R) -> Result<bool, Fault>
+fn begins_certificate<R: PlacedSource>(source: &mut R) -> Result<bool, ProgramFault>
     requires { R.has_failed source.old ≡ false }
     ensures told { (bytes : List ℕ) → GivesAll (R.gives source.old) (R.shows source.old) bytes
         → MatchResult result (λ is. (is ≡ is_certificate bytes) × GivesAll (R.gives source.new) (R.shows source.new) bytes) (λ _. ⊥) }
-    ensures fault { IfErr result (λ fault. fault ≡ Fault.Io) }
+    ensures fault { IfErr result (λ fault. fault ≡ ProgramFault.Io) }
     ensures failed { R.has_failed source.new ≡ fails is_io result }
 {
     let mut title = [0; TITLE_LEN];
     let count = match read_full(source, &mut title) {
         Ok(count) => count,
-        Err(_failed) => return Err(Fault::Io),
+        Err(_failed) => return Err(ProgramFault::Io),
     };
     match source.seek(0) {
         Ok(()) => Ok(is_title(&title[..count])),
-        Err(Failed) => Err(Fault::Io),
+        Err(Failed) => Err(ProgramFault::Io),
     }
 }
 
@@ -82,7 +82,7 @@ fn certificate_lines<R: Source>(alloc: Global, source: &mut R, is_object: bool) 
 }
 
 // What stands before the entries.
-fn read_front<R: Source>(source: &mut R) -> Result<Front, Fault>
+fn read_front<R: Source>(source: &mut R) -> Result<Front, ProgramFault>
     requires { R.has_failed source.old ≡ false }
     ensures front { (bytes : List ℕ) → R.gives source.old (whole bytes) → IfOk result (λ front. front_at (take 28 bytes) ≡ Ok (front_content front)) }
     ensures root { IfOk result (λ front. front.root < classes_of front.family) }
@@ -92,19 +92,19 @@ fn read_front<R: Source>(source: &mut R) -> Result<Front, Fault>
     let mut room = [0; FRONT_LEN];
     match read_full(source, &mut room) {
         Ok(count) => front_in(&room[..count]),
-        Err(_failed) => Err(Fault::Io),
+        Err(_failed) => Err(ProgramFault::Io),
     }
 }
 
-// The same of the bytes that were read.
-fn front_in(bytes: &[u8]) -> Result<Front, Fault>
+/// The same of the bytes that were read.
+pub(crate) fn front_in(bytes: &[u8]) -> Result<Front, ProgramFault>
     ensures front { IfOk result (λ front. front_at bytes.now ≡ Ok (front_content front)) }
     ensures root { IfOk result (λ front. front.root < classes_of front.family) }
     ensures fault { IfErr result (IsDefectOf bytes.now) }
 {
     match front_of(bytes) {
         Ok((front, _)) => Ok(front),
-        Err(defect) => Err(Fault::Certificate(CertificateFault::Defect(defect))),
+        Err(defect) => Err(ProgramFault::Certificate(CertificateFault::Defect(defect))),
     }
 }
 
@@ -194,7 +194,6 @@ fn joined_told(
     })
 }
 
-// The text of the set.
 fn set_text(alloc: Global, set: PieceSet) -> Result<String, Memory>
     ensures { IfOk result (λ text. string_bytes text ≡ set_text set) }
 {
@@ -217,7 +216,6 @@ fn rules_name(profile: Profile) -> &'static str
     }
 }
 
-// The number of the format.
 fn format_number(format: Format) -> u8
     ensures { result ≡ format_number format }
 {

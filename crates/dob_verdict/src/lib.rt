@@ -1,4 +1,4 @@
-// What the program answers by certificates: what one proves, one made from a table, and the move that one gives; and what the header of one says, or of a
+// `verify`, `certify`, `reply` and `info`: what a certificate proves, one made from a table, the move that one gives, and what the header of one says, or of a
 // table's file.
 #![tactic(auto)]
 

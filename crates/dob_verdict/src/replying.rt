@@ -11,7 +11,7 @@ use dob_certfile::CertificateFile;
 use dob_certificate::{ListKind, check_list};
 use dob_certify::{Reply, reply_to};
 use dob_classes::Classes;
-use dob_files::{Answer, CertificateFault, Fault, position_named};
+use dob_files::{Answer, CertificateFault, ProgramFault, position_named};
 use dob_moves::Move;
 use dob_pieces::{Memory, Position};
 use dob_probe::check_member;
@@ -37,7 +37,7 @@ fn told_reply(alloc: Global, certificate: &CertificateFile, position: &Position)
     match proved_reply(alloc, certificate, position)? {
         Some(Reply::Win { played, plies }) => Ok(win_line(alloc, played, plies as u64 + 1)?),
         Some(Reply::Loss { plies }) => Ok(loss_line(alloc, plies)?),
-        None => Err(Fault::Certificate(CertificateFault::Unlisted)),
+        None => Err(ProgramFault::Certificate(CertificateFault::Unlisted)),
     }
 }
 
@@ -46,7 +46,7 @@ fn proved_reply(
     alloc: Global,
     certificate: &CertificateFile,
     position: &Position,
-) -> Result<Option<Reply>, Fault>
+) -> Result<Option<Reply>, ProgramFault>
     ensures ok { IfOk result (IsReplyOf (content certificate.now) position.now.setup) }
     ensures err { IfErr result (IsReplyFault (content certificate.now) position.now.setup) }
 {

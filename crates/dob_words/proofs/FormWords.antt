@@ -21,7 +21,6 @@ use Rattle.std.proofs.lemmas.Bool.{cases_Bool}
 use Rattle.std.proofs.Common.{arith, inl, inr}
 
 -- ---- the subcommand's arguments, built
-
 abbrev pub option_arg : ProfileNames → Form → Text × Text → Rule
 option_arg profiles f o = text_arg profiles f (Some o.0) None o.1
 
@@ -54,7 +53,6 @@ pub record IsTaken (profiles : ProfileNames) (f : Form) : Type 0 where
   pub required : (rows : List Row) → list_any (λ a. a.required && not (is_given a.id rows)) (args_of profiles f) ≡ some_missing f rows (labels f)
 
 -- ---- the arguments by their names
-
 long_options : (profiles : ProfileNames) (f : Form) (os : List (Text × Text)) (more : List Rule) (name : Text)
     → arg_by_long (map (option_arg profiles f) os ++ more) name
     ≡ option_map_or (λ o. Some (option_arg profiles f o)) (find (λ o. bytes_eq o.0 name) os) (arg_by_long more name)

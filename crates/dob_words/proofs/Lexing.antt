@@ -59,7 +59,6 @@ before_none [] e = refl
 before_none (x ∷ xs) e = grind (arith, before_none xs, take_one)
 
 -- ---- which words ask for help
-
 pub flip : (x y : ℕ) (b : Bool) → (x == y) ≡ b → (y == x) ≡ b
 flip x y b e = grind (arith, nat_tests)
 
@@ -74,7 +73,6 @@ pub help_short : (y : ℕ) (ys : Text) → (y == 45) ≡ false
 help_short y ys t = rw (flip y 45 false t) refl
 
 -- ---- which words are `--`
-
 pub flip_bytes : (v w : Text) (b : Bool) → bytes_eq v w ≡ b → bytes_eq w v ≡ b
 flip_bytes v w b e = grind (arith, bytes_eq-Decides v w, bytes_eq-Decides w v)
 

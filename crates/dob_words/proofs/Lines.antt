@@ -10,6 +10,7 @@ use Rattle.dob_words.proofs.Common.{writes_stream, Reading, chars}
 use Rattle.dob_words.specs.Forms.{is_among, is_needed, Form, Text, forms, labels, no_form}
 use Rattle.dob_words.specs.Lines.{AreNew, Later, Gives, IsAmong, IsCommandLine, by_dashes, by_flag, by_option, by_place, by_value, next, none, nothing}
 use Rattle.dob_words.specs.Readings.{ComesFromLine, SomeLine}
+use Rattle.dob_words.specs.Words.{reaches_without_file}
 use Rattle.dob_words.specs.declared.command.Reading.TheVariants as reading
 use Rattle.dob_words.proofs.Lexing.{hyphen_first, before_none, take_one}
 use Rattle.dob_words.proofs.Texts.{Each, kept_both}
@@ -18,7 +19,6 @@ use Rattle.std.proofs.lemmas.Bool.{cases_Bool}
 use Rattle.std.proofs.lemmas.Option.{same_Some}
 
 -- ---- options' words
-
 drop_more : (n x : ℕ) (xs : Text) → drop (1 + n + 1) (x ∷ xs) ≡ drop (n + 1) xs
 drop_more n x xs = let e : 1 + n + 1 ≡ suc (n + 1) = omega arith in rw e refl
 
@@ -344,7 +344,8 @@ form_line f rest name texts e =
     texts_asked (Some ts) e = (ap asked_name e, ap (λ m. Some (asked_texts m)) e)
 
 without_conflict_asks : (m : Meaning) (name : Text) (texts : List (Option Text)) → without_conflict m ≡ asks name texts → m ≡ asks name texts
-without_conflict_asks (asks n ts) name texts e = go (writes_stream n ts) (takes_lines n && not (is_clear ts)) e
+without_conflict_asks (asks n ts) name texts e =
+    go (writes_stream n ts) ((takes_lines n && not (is_clear ts)) || reaches_without_file n ts) e
   where
     go : (a b : Bool) → cond a usage (cond b usage (asks n ts)) ≡ asks name texts → asks n ts ≡ asks name texts
     go true b e = not_usage no_form name texts e

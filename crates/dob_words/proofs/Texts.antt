@@ -41,7 +41,6 @@ abbrev pub rows_of : Given → List Row
 rows_of = map row_of
 
 -- ---- what is found in them
-
 pub row_found : (label : Text) (given : Given) → find (λ r. bytes_eq r.id label) (rows_of given) ≡ option_map row_of (find (λ g. bytes_eq g.0 label) given)
 row_found label given = sym (find-map (λ (r : Row). bytes_eq r.id label) row_of given)
 
@@ -70,7 +69,6 @@ looked f [] given = (refl, refl)
 looked f (l ∷ ls) given = grind (arith, looked f ls given, given_found l given, first_found l given)
 
 -- ---- one more text
-
 at_row_fresh : (id : Text) (change : Row → List Row) (missing rows : List Row) → has_row id rows ≡ false → at_row id change missing rows ≡ rows ++ missing
 at_row_fresh id change missing [] e = refl
 at_row_fresh id change missing (r ∷ rs) e = grind (arith, at_row_fresh id change missing rs)
@@ -163,7 +161,6 @@ pub flag_twice : (name u : Text) (given : Given) → text_after name given ≡ S
 flag_twice name u given there = rw (has_found name given, there) refl
 
 -- ---- no argument has a default
-
 abbrev pub Each : {X : Type 0} → (X → Type 0) → List X → Type 0
 Each P [] = Unit {0}
 Each P (x ∷ xs) = P x × (Each P xs)

@@ -101,8 +101,10 @@ HasLinesTexts texts (lines.Value profile position) =
 HasLinesTexts texts (lines.Count profile set) =
     (rules : Option Text) × (Some set.now ∷ rules ∷ [] ≡ texts) × (profile ≡ profile_named rules)
 HasLinesTexts texts (lines.Reach search file position) =
-    (rules levels flag : Option Text) × (text_given file ∷ rules ∷ levels ∷ flag ∷ Some position.now ∷ [] ≡ texts) × (search.profile ≡ profile_named rules)
-    × (search.has_levels ≡ is_some levels) × (search.is_watched ≡ is_some flag)
+    (rules levels values json flag : Option Text)
+    × (text_given file ∷ rules ∷ levels ∷ values ∷ json ∷ flag ∷ Some position.now ∷ [] ≡ texts) × (search.profile ≡ profile_named rules)
+    × (search.has_levels ≡ is_some levels) × (search.has_values ≡ is_some values) × (search.is_json ≡ is_some json)
+    × (search.is_watched ≡ is_some flag)
 HasLinesTexts texts (lines.Build build) =
     (n rules flag : Option Text) × (Some build.set.now ∷ n ∷ Some build.file.now ∷ rules ∷ flag ∷ [] ≡ texts) × IfSome n (λ t. is_number t ≡ true)
     × (build.nodes ≡ option_map number_in n) × (build.profile ≡ profile_named rules) × (build.is_watched ≡ is_some flag)

@@ -242,9 +242,18 @@ is_clear (file ∷ each ∷ json ∷ position ∷ []) = if is_some each then not
 is_clear (file ∷ numbered ∷ records ∷ each ∷ json ∷ position ∷ []) = if is_some each then not (is_some position) else is_some position
 is_clear texts = true
 
--- what is asked for, where one of `--each` and a POSITION is given
+-- a line for each value is asked for, by the text of `--values`, and no FILE is named
+abbrev pub lacks_file : Option Text → Option Text → Bool
+lacks_file file values = is_some values && not (is_some file)
+
+-- so it is among the texts of `reach`: FILE, those of `--rules`, `--levels`, `--values`, `--json` and `--progress`, and POSITION
+abbrev pub reaches_without_file : Text → List (Option Text) → Bool
+reaches_without_file name (file ∷ rules ∷ levels ∷ values ∷ json ∷ progress ∷ position ∷ []) = bytes_eq (codes "reach") name && lacks_file file values
+reaches_without_file name texts = false
+
+-- what is asked for, where one of `--each` and a POSITION is given, and a file where each value is asked for
 abbrev pub cleared : Meaning → Meaning
-cleared (asks name texts) = if takes_lines name && not (is_clear texts) then usage else asks name texts
+cleared (asks name texts) = if (takes_lines name && not (is_clear texts)) || reaches_without_file name texts then usage else asks name texts
 cleared help = help
 cleared version = version
 cleared usage = usage

@@ -3,8 +3,9 @@
 // A further subcommand, as `stats --db FILE`, has
 // - here a row with its help in rows.rt; a variant of `LinesOrder` and an arm of `order_for` in command/orders.rt; and its name and its texts in
 //   specs/Readings.antt;
-// - in dob_query (a position), dob_survey (a table) or dob_verdict (a certificate) what it owes in a file of specs/, as `stats_owed`, and its answer in a file of
-//   src/, each named in the Lib.antt or lib.rt there; and what the answer's proof needs in proofs/FILE/answer_NAME/Answers.antt;
+// - in dob_query (a position), dob_survey (a table, what a game can reach), dob_verdict (a certificate) or dob_build (a build) what it owes in a file of specs/, as
+//   `stats_owed`, and its answer in a file of src/, each named in the Lib.antt or lib.rt there; and what the answer's proof needs in
+//   proofs/FILE/answer_NAME/Answers.antt;
 // - in dob_cli an arm of `owed_by` in specs/Orders.antt and one of `answer` in program.rt, with a line in its Answers.antt; and where a value table's file makes
 //   its answer right, an arm of `rightly` in proofs/Orders.antt.
 // What is asked of a position by a file, as `best --db FILE POSITION`, is a form of a `Question` instead, and asked by `--each` too.
@@ -209,7 +210,6 @@ fn last_rows<'a>() -> &'a [SubcommandRow]
     LAST_ROWS
 }
 
-// The command with a subcommand for each row.
 fn add_subcommands<'a>(
     alloc: Global,
     mut command: Command<'a>,
@@ -224,7 +224,6 @@ fn add_subcommands<'a>(
     Ok(command)
 }
 
-// The subcommand of a row.
 fn row_command<'a>(
     alloc: Global,
     profiles: Profiles<'a>,
@@ -246,7 +245,6 @@ fn named_command<'a>(alloc: Global, name: &'a str, about: &'a str, help: &'a str
     Command::new(alloc, name).about(about).after_help(help)
 }
 
-// The command with these options.
 fn add_options<'a>(
     alloc: Global,
     mut command: Command<'a>,
@@ -262,7 +260,6 @@ fn add_options<'a>(
     Ok(command)
 }
 
-// The command with these flags.
 fn add_flags<'a>(
     alloc: Global,
     mut command: Command<'a>,
@@ -311,7 +308,6 @@ fn bare_command<'a>(alloc: Global) -> Result<Command<'a>, AllocError>
         .bin_name("dobutsu")
 }
 
-// An option.
 fn choice_argument<'a>(alloc: Global, profiles: Profiles<'a>, choice: &OptionArgument) -> Arg<'a>
     ensures { IsRead (choice_rule profiles.entry.names (choice_said choice.now)) result }
 {
@@ -393,7 +389,13 @@ fn read_order<'a>(
 fn refusal_text(alloc: Global, name: &str, inner: &ArgMatches<'_>) -> Result<String, AllocError> {
     match misplaced_in(name, inner) {
         Some(stream) => stream.text(alloc),
-        None => unclear_text(alloc, name),
+        None => {
+            if name == "reach" {
+                fileless_text(alloc)
+            } else {
+                unclear_text(alloc, name)
+            }
+        }
     }
 }
 
@@ -414,6 +416,18 @@ fn unclear_text(alloc: Global, name: &str) -> Result<String, AllocError> {
 
 Usage: dobutsu {name} --db <FILE> <POSITION>
        dobutsu {name} --db <FILE> --each
+
+For more information, try '--help'.
+"
+    )
+}
+
+// What is said where `reach` is asked for a line for each value, and by no file.
+fn fileless_text(alloc: Global) -> Result<String, AllocError> {
+    format!(in alloc;
+        "error: '--values' needs '--db <FILE>'
+
+Usage: dobutsu reach --db <FILE> --values <POSITION>
 
 For more information, try '--help'.
 "

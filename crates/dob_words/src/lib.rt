@@ -1,4 +1,4 @@
-// The words of the command line: what they ask for, and how `clap` reads them.
+// Subcommands, options and help texts: what the words of a command line ask for, and how `clap` reads them.
 //
 // Choices:
 // - A flag is an option without a text to `clap` (`num_args(0)`), not a `SetTrue`, so what words give is one list.

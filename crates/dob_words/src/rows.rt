@@ -44,6 +44,11 @@ pub const FIRST_ROWS: &[SubcommandRow] = &[
                 "levels",
                 "A line for each distance, as `2 17`, after the others",
             ),
+            (
+                "values",
+                "With `--db`: a line for each value, as `win 3 12`, before those of the distances",
+            ),
+            JSON,
             PROGRESS,
         ],
         &[POSITION],
@@ -415,8 +420,12 @@ Whether one or both of a class's two positions are reached isn't said.
 
 Answers: `classes N`, how many classes are reached, that of POSITION among them; `open N`, how many of them are open; `depth D`,
 in how many plies the furthest is reached. With `--db FILE` also `win N`, `loss N` and `draw N`, how many of them have which value for
-the side to move: the rules are those of the file, and POSITION has to be of its piece set (E7). With `--levels` then a line
-`PLY N` for each distance from POSITION, how many classes are reached in so many plies and in no fewer.
+the side to move: the rules are those of the file, and POSITION has to be of its piece set (E7). With `--values`, which needs `--db`,
+then `win D N` and `loss D N`: how many of them are won or lost in D plies, the least D first. With `--levels` then a line `PLY N` for
+each distance from POSITION, how many classes are reached in so many plies and in no fewer.
+
+With `--json`: an object on a line, first `{\"classes\":39,\"open\":21,\"depth\":6}`, with `--db` also with `win`, `loss` and `draw`; then for
+each value `{\"value\":\"win\",\"plies\":3,\"classes\":3}`, a draw first; then for each distance `{\"ply\":2,\"classes\":10}`.
 
 It takes a bit of memory for each class of the piece set, and 4 bytes for each of the classes of two distances that follow
 each other: 0.4 GB for the whole game, with `--db` 1.5 GB. That runs for minutes.
@@ -432,7 +441,7 @@ its own and owns a part of the positions; with more nodes than processors it wor
 Without `--nodes` there are as many as processors, 16 at most. The file is the same whatever their number.
 
 The file has 2 bytes a class and 53 more, and its build takes some 9 bytes of memory a class.
-`dobutsu count --set 111` gives the classes of a set: 765360 of three pieces, which take a second or two.
+`dobutsu count --set 111` gives the classes of a set: 765360 of three pieces, which take less than a second.
 The whole game, `222`, has 588021930, which take some minutes, 5 GB of memory and 1.2 GB of disk.
 
 The table is written to FILE with `.part` after it, and takes the place of FILE when it is whole and on

@@ -5,7 +5,7 @@
 /// What a text has to be.
 #[derive(Clone, Copy)]
 pub enum ArgumentKind {
-    /// Anything.
+    /// Any text, as a position's or a file's name.
     Any,
     /// A number below 2^64.
     Number,

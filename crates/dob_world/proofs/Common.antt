@@ -35,21 +35,21 @@ pub use Rattle.dob_share.specs.declared.opening.Opening.{Opening}
 pub use Rattle.dob_share.specs.declared.share.Share.{Share}
 pub use Rattle.dob_update.specs.Batches.{BatchView, OutboxView, empty_outbox, items_of_batches}
 pub use Rattle.dob_share.specs.Items.{items_from, items_of}
-pub use Rattle.dob_stops.specs.declared.cause.Cause.{Cause}
-pub use Rattle.dob_stops.specs.declared.fault.Fault.{Fault}
-pub use Rattle.dob_stops.specs.declared.fault.Fault.TheVariants.{Stopped}
+pub use Rattle.dob_share.specs.declared.cause.Cause.{Cause}
+pub use Rattle.dob_share.specs.declared.build_fault.BuildFault.{BuildFault}
+pub use Rattle.dob_share.specs.declared.build_fault.BuildFault.TheVariants.{Stopped}
 pub use Rattle.dob_node.proofs.Nodes.{kept_sound, outbox_same}
-pub use Rattle.dob_lawful.proofs.Rest.{below_owner}
-pub use Rattle.dob_lawful.proofs.Settles.{emitted_all, emitted_grown, emitted_more, items_from-append}
+pub use Rattle.dob_history.proofs.Rest.{below_owner}
+pub use Rattle.dob_history.proofs.Settles.{emitted_all, emitted_grown, emitted_more, items_from-append}
 pub use Rattle.dob_node.proofs.ShownValues.{value_shown, values_given}
 pub use Rattle.dob_node.proofs.TakenLists.{before_since, taken_since}
-pub use Rattle.dob_lawful.proofs.Totals.{some_known, start_sums}
-pub use Rattle.dob_lawful.proofs.ValuesFollow.{SumsUp-same, value_follows}
-pub use Rattle.dob_lawful.specs.Histories.{AreValuesBelow, IsChained, value_of}
-pub use Rattle.dob_lawful.specs.Lawful.{CanApply, known_of}
+pub use Rattle.dob_history.proofs.Totals.{some_known, start_sums}
+pub use Rattle.dob_history.proofs.ValuesFollow.{SumsUp-same, value_follows}
+pub use Rattle.dob_history.specs.Histories.{AreValuesBelow, IsChained, value_of}
+pub use Rattle.dob_history.specs.Lawful.{CanApply, known_of}
 pub use Rattle.dob_node.specs.Nodes.{HasApplied, HasCut, HasItemFault, HasTaken, IsExpanded, IsOpened, IsSound, IsUnchanged, outbox_to}
 pub use Rattle.dob_history.specs.Stores.{HistoryView}
-pub use Rattle.dob_history.specs.TakenItems.{AreKept, AreTaken, HasItemEntries, IsReason, IsTaken}
+pub use Rattle.dob_history.specs.TakenItems.{AreKept, AreTaken, IsReason, IsTaken}
 pub use Rattle.dob_node.specs.declared.node.Node.{Node}
 pub use Rattle.dob_world.specs.Effects.{IsEventDone, IsMade, IsSkipped, IsStopped, IsWorldUnchanged}
 pub use Rattle.dob_world.specs.Events.{Applies, AppliesItems, AppliesOwn, CanHappen, ExpandsAt, Happens, LinksStay, NodesStay, OtherLinksStay, Posts, Stays}

@@ -7,7 +7,6 @@ use Rattle.std.proofs.lemmas.Int.{to_z_pos}
 use Rattle.dob_safra.specs.Rings.{Raises}
 
 -- ---- lists by pairs of nodes
-
 inside : (n : ℕ) (counts : List ℕ) (i j : ℕ) → i < n → j < n → length counts ≡ n * n → i * n + j < length counts
 inside n counts i j low_i low_j whole = let low : i * n + j < n * n = mul-add-lt i n j n low_i low_j in omega (arith, low, whole)
 

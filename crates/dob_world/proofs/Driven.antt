@@ -1,7 +1,7 @@
 -- Runs and rounds of events: one event more of a run, one event more of a round, one round more, and the end where no event of a round can happen.
 use Rattle.dob_world.proofs.Common.{◌%◌, ◌*◌, ◌++◌, ◌+◌, ◌-◌, ◌/◌, ◌<◌, ◌∙◌, ◌∷◌, ◌≡◌, ◌≢◌, ◌≤◌, Bool, List, None, Some, [], add-one, ap, arith, false, get_or}
 use Rattle.dob_world.proofs.Common.{inl, inr, length, nat_eq, refl, subst, sym, take, true, ℕ, mod-eq-sub-div-mul, cases_Bool, cases_lt, eqb-true, div-mul-add}
-use Rattle.dob_world.proofs.Common.{mul-add-lt, slice_get-get_or, Fault, IsMade, IsSkipped, IsStopped, IsWorldUnchanged, CanHappen, Headline, StillIsEnded}
+use Rattle.dob_world.proofs.Common.{mul-add-lt, slice_get-get_or, BuildFault, IsMade, IsSkipped, IsStopped, IsWorldUnchanged, CanHappen, Headline, StillIsEnded}
 use Rattle.dob_world.proofs.Common.{HasDriven, HasMadeRound, HasRunEvents, HasStoppedAt, SomeCan, StopsInRounds, IsStill, round_event, round_length, IsAfter}
 use Rattle.dob_world.proofs.Common.{IsAfterSteps, IsDoneOrSkipped, IsStepOf, ring_of, setting_of, state_of, world_shown, IsSetting, IsStanding, IsWorldStart}
 use Rattle.dob_world.proofs.Common.{IsLeftBy, IsStopBy, IsStopInRounds, HaveFallsIn, IsAtRest, IsLinked, Matches, Setting, State, Detector, Event, Announce}
@@ -53,7 +53,6 @@ after_between k old between new front behind a b c low high one other =
     (both_after k old between new front behind (b - a) (c - b) one other)
 
 -- ---- one step
-
 state_same : (old new : World) → IsWorldUnchanged old new → state_of new ≡ state_of old
 state_same old new same = λ d. record {
   world = world_shown (same.setting d).family (same.setting d).n (same.nodes d) (same.lanes d);
@@ -119,7 +118,7 @@ ran_more k events place default old new low run step going standing =
     (one_event k (state_of old) (state_of new) event (new.steps - old.steps) step.step))) standing going)
 
 -- the event after those of a run stops a node
-pub run_stops : (k : Setting) (events : List Event) (place : ℕ) (default : Event) (world : World) (fault : Fault) → place < length events →
+pub run_stops : (k : Setting) (events : List Event) (place : ℕ) (default : Event) (world : World) (fault : BuildFault) → place < length events →
     HasRunEvents k (take place events) world → IsStopBy (setting_of world) (state_of world) (get_or events place default) fault → HasStoppedAt k events fault
 run_stops k events place default world fault low run stop = record {
   setting = subst IsSetting run.setting run.standing.setting;
@@ -304,7 +303,7 @@ round_done old new upto way whole = record {
     more_count a b least is = grind (arith, nat_tests)
 
 -- An event of the round stops a node.
-pub round_stops : (old mid new : World) (place : ℕ) (fault : Fault) → Partway old mid place → place < round_length old.node_count →
+pub round_stops : (old mid new : World) (place : ℕ) (fault : BuildFault) → Partway old mid place → place < round_length old.node_count →
     IsStopped (round_event old.node_count place) fault mid new → new.failed ≡ Some fault → StopsInRounds old 1 fault new
 round_stops old mid new place fault way low stopped failed = record {
   setting = stopped.setting ∙ way.setting;
@@ -325,7 +324,6 @@ round_stops old mid new place fault way low stopped failed = record {
 }
 
 -- ---- rounds
-
 pub no_rounds : (world : World) → IsStanding world → world.failed ≡ None → HasDriven world 0 false world
 no_rounds world standing going = record {
   made = 0;
@@ -411,7 +409,7 @@ still_longer old new few rounds driven less = record {
 }
 
 -- An event of a round after others stops a node.
-pub drive_stops : (old mid new : World) (made rounds : ℕ) (fault : Fault) → HasDriven old made false mid → made < rounds →
+pub drive_stops : (old mid new : World) (made rounds : ℕ) (fault : BuildFault) → HasDriven old made false mid → made < rounds →
     StopsInRounds mid 1 fault new → StopsInRounds old rounds fault new
 drive_stops old mid new made rounds fault driven few stopped =
     let k = setting_of old in

@@ -87,7 +87,6 @@ module _ {nodes : List Node} {i : ℕ} {node : Node} (there : NodeAt nodes i nod
         (λ is. subst (P i) (same_Some after x (sym set_there.is ∙ is)) given) (λ other is. others m x (sym (get_set_other nodes i m after other) ∙ is))
 
 -- ---- where the lists are as long as they should be
-
 slot_found : (lanes : List Lane) (n i j place : ℕ) (lane : Lane) → length lanes ≡ n * n → i < n → j < n → place ≡ i * n + j → lane ≡ get_or lanes place lane →
     slice_get lanes place ≡ Some lane
 slot_found lanes n i j place lane whole low_i low_j at is = read_there lanes place lane (omega (arith, whole, at, mul-add-lt i n j n low_i low_j)) is
@@ -98,7 +97,6 @@ lane_found lanes n i j place lane whole low_i low_j at is =
     lane_slot n lanes i j low_j ∙ ap (slice_get lanes) (sym at) ∙ slot_found lanes n i j place lane whole low_i low_j at is
 
 -- ---- where nodes and lanes stand in their places
-
 pub node_there : {k : Setting} {nodes : List Node} {lanes : List Lane} → AreInPlace k nodes lanes → (i : ℕ) (node : Node) → i < k.n →
     node ≡ get_or nodes i node → NodeAt nodes i node
 node_there {nodes = nodes} places i node low is = record { is = read_there nodes i node (omega (arith, low, places.nodes_whole)) is }

@@ -3,16 +3,16 @@
 use Rattle.dob_world.proofs.Common.{◌++◌, ◌+◌, ◌<◌, ◌^◌, ◌∙◌, ◌∷◌, ◌≡◌, ◌≢◌, ◌≤◌, ◌⊎◌, List, [], ap, append_assoc, arith, drop, false, inl, inr, length, subst}
 use Rattle.dob_world.proofs.Common.{sym, take, true, ℕ, cases_Bool, cases_eq, append-nil, length-append, take-append-drop, slice_get_within, classes_of}
 use Rattle.dob_world.proofs.Common.{predecessors, moved_kept, IsSize, CountsStay, IsLawfulRing, Moved, Ring, Item, Settlement, BatchView, items_of_batches}
-use Rattle.dob_world.proofs.Common.{items_from, items_of, Fault, emitted_all, emitted_grown, emitted_more, CanApply, Applies, AppliesItems, AppliesOwn}
+use Rattle.dob_world.proofs.Common.{items_from, items_of, BuildFault, emitted_all, emitted_grown, emitted_more, CanApply, Applies, AppliesItems, AppliesOwn}
 use Rattle.dob_world.proofs.Common.{CanHappen, ExpandsAt, Happens, LinksStay, NodesStay, Posts, TakesBatch, EventsKeepAll, HappeningKeepsAll}
 use Rattle.dob_world.proofs.Common.{HappeningKeepsMatch, ListsAreBeginnings, OwnItemFits, TakenItemFits, HasAtMost, IsForMemory, IsStopBy}
 use Rattle.dob_world.proofs.Common.{AreLawful, HaveFallsIn, IsLinked, IsNodeIdle, Matches, Nodes, Setting, State, WorldView, emitted_in, items_in, value_in}
 use Rattle.dob_world.proofs.Common.{Event, Announce, Expand, Own, Pass, Post, Take}
 use Rattle.dob_share.specs.Shares.{GoesTooDeep}
 use Rattle.dob_update.proofs.BatchItems.{items_in_more}
-use Rattle.dob_lawful.proofs.Kept.{better_apart}
-use Rattle.dob_lawful.proofs.Rises.{falls_stay, not_too_deep}
-use Rattle.dob_lawful.proofs.Steps.{can_apply, lawful_after}
+use Rattle.dob_history.proofs.Kept.{better_apart}
+use Rattle.dob_history.proofs.Rises.{falls_stay, not_too_deep}
+use Rattle.dob_history.proofs.Steps.{can_apply, lawful_after}
 use Rattle.dob_safra.specs.declared.event.RingEvent.TheVariants as ring
 use Rattle.dob_world.proofs.InPlace.{at_node, at_link, by_stay}
 use Rattle.dob_world.proofs.Firsts.{none_some}
@@ -376,7 +376,7 @@ events_keep_all k old new (event ∷ events) some lawful linked after = elim aft
 ]
 
 -- for few classes a node stops for lack of memory alone
-pub few_stop : (k : Setting) (state : State) (event : Event) (fault : Fault) → 0 < k.n → AreLawful k state.world.nodes → IsLinked k state.world →
+pub few_stop : (k : Setting) (state : State) (event : Event) (fault : BuildFault) → 0 < k.n → AreLawful k state.world.nodes → IsLinked k state.world →
     HaveFallsIn k state.world.nodes → classes_of k.family < 65535 → IsStopBy k state event fault → IsForMemory fault
 few_stop k state (Own i) fault some lawful linked falls few stop = elim stop.1 [
   | inl memory ↦ (i, memory)

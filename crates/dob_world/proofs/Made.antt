@@ -1,16 +1,16 @@
 -- Own items applied, and batches taken and posted, where a world stands: the event was possible, it happened, and the world stands on;
 -- or why its node stops.
 use Rattle.dob_world.proofs.Common.{◌++◌, ◌<◌, ◌∙◌, ◌∷◌, ◌≡◌, ◌≢◌, ◌⊎◌, List, None, [], ap, append_assoc, cond, drop, inl, inr, length, nat_lt, refl, set}
-use Rattle.dob_world.proofs.Common.{subst, sym, take, ℕ, append-nil, All-append, All-cons, All-head, All-nil, All-tail, All, one_status, HasStatus, Status}
+use Rattle.dob_world.proofs.Common.{subst, sym, take, ℕ, append-nil, All-append, All-cons, All-nil, All-tail, All, one_status, HasStatus, Status}
 use Rattle.dob_world.proofs.Common.{Open, class_setup, classes_of, predecessors, Moved, Ring, Cell, CellCanTake, fresh, owner_of, cell_at, status_at}
 use Rattle.dob_world.proofs.Common.{Item, Share, BatchView, OutboxView, items_of_batches, items_from, Cause, Stopped, kept_sound, outbox_same, CanApply}
-use Rattle.dob_world.proofs.Common.{HasItemFault, HasTaken, IsSound, IsUnchanged, outbox_to, HistoryView, AreKept, AreTaken, HasItemEntries, IsReason, Node}
+use Rattle.dob_world.proofs.Common.{HasItemFault, HasTaken, IsSound, IsUnchanged, outbox_to, HistoryView, AreKept, AreTaken, IsReason, Node}
 use Rattle.dob_world.proofs.Common.{AppliesItems, AppliesOwn, LinksStay, OtherLinksStay, Posts, Stays, TakesBatch, HasListed, HasReceivedFront, HasSentBatch}
 use Rattle.dob_world.proofs.Common.{HasTakenBatch, IsBatchTo, LaneStays, LinkView, link_of, ring_of, nodes_shown, world_shown, IsNodeOf, Stand}
 use Rattle.dob_world.proofs.Common.{IsCauseOf, IsLeftBy, TakesFront, Setting, WorldView, Detector, Own, Post, Take, Lane}
 use Rattle.dob_safra.specs.declared.event.RingEvent.TheVariants as ring
 use Rattle.dob_share.specs.Shares.{Fits, GoesTooDeep}
-use Rattle.dob_stops.specs.declared.cause.Cause.TheVariants as cause
+use Rattle.dob_share.specs.declared.cause.Cause.TheVariants as cause
 use Rattle.dob_world.proofs.Firsts.{some_of}
 use Rattle.dob_world.proofs.InPlace.{here, was, elsewhere, stays, stays_else, kept_of, AtLane, in_place, lane_here, lane_was, lane_else, lane_stays, set_there}
 use Rattle.dob_world.proofs.InPlace.{unseen_at}
@@ -19,7 +19,6 @@ use Rattle.dob_world.proofs.Moves.{applies_one, applies_many, own_cell}
 use Rattle.dob_world.proofs.Stood.{Outcome, state_at}
 
 -- ---- nodes that are kept
-
 node_after : {k : Setting} {i : ℕ} {node : Node} → IsNodeOf k i node → (after : Node) → IsSound after → after.failed ≡ None →
     (after.family ≡ node.family) × (after.id ≡ node.id) × (after.n ≡ node.n) × (after.expanded ≡ node.expanded) →
     ((class : ℕ) → status_at after.share class ≡ status_at node.share class) → IsNodeOf k i after
@@ -118,10 +117,6 @@ front_received node after lane next why step = record {
   same = step.same;
 }
 
-All-front : (xs ys : List Item) → All HasItemEntries (xs ++ ys) → All HasItemEntries xs
-All-front [] ys all = All-nil HasItemEntries
-All-front (x ∷ xs) ys all = All-cons HasItemEntries x xs (All-head HasItemEntries x (xs ++ ys) all) (All-front xs ys (All-tail HasItemEntries x (xs ++ ys) all))
-
 module _ {k : Setting} {nodes : List Node} {lanes : List Lane} {detector : Detector} {steps i j place : ℕ} {node : Node} {lane : Lane}
     (stand : Stand k nodes lanes detector steps) (at : AtLane k nodes lanes i j j place node lane) (differs : i ≢ j) (after : Node) (next : Lane) where
   abbrev before : WorldView
@@ -165,9 +160,7 @@ module _ {k : Setting} {nodes : List Node} {lanes : List Lane} {detector : Detec
     items_received =
         let others = items_of_batches next.link.waiting ++ (before.outbox i j
         ++ items_from (predecessors k.family) k.n j (drop (before.expanded i) (before.nodes.history i))) in
-        applies_many at after next stand.setting.nodes.0 items (step.behind ++ others) differs (kept_of at.node_of)
-        (All-front items step.behind (subst (λ xs. All HasItemEntries xs) step.items_are
-        (All-head (IsBatchTo k.family k.n j) step.batch next.link.waiting batches_are).entries)) step.taken.taken stand.lawful
+        applies_many at after next stand.setting.nodes.0 items (step.behind ++ others) differs (kept_of at.node_of) step.taken.taken stand.lawful
         (next_waiting k before i j step.batch next.link.waiting stand.linked at.low_i at.low_j differs waits_first
         ∙ ap (λ xs. before.nodes.applied i j ++ (xs ++ others)) step.items_are
         ∙ ap (λ xs. before.nodes.applied i j ++ xs) (append_assoc items step.behind others)) step.listed
@@ -259,7 +252,6 @@ module _ {k : Setting} {nodes : List Node} {lanes : List Lane} {detector : Detec
       step.cut.cut.of_link.1 ∙ (at.node_of.sound.addressed j).of.1 ∙ at.node_of.of.2,
       step.cut.cut.of_link.3 ∙ (at.node_of.sound.addressed j).of.3,
     );
-    entries = step.cut.entries;
   }
 
   pub posted : i ≢ j → (0 < length ((world_shown k.family k.n nodes lanes).outbox i j))
@@ -279,7 +271,6 @@ module _ {k : Setting} {nodes : List Node} {lanes : List Lane} {detector : Detec
   }
 
 -- ---- why a node stops
-
 pub fits_by : (k : Setting) (i : ℕ) (node : Node) (share : Share) (history : HistoryView) (cell : ℕ → Cell) (item : Item) → IsNodeOf k i node →
     AreKept k.family k.n i share history → ((class : ℕ) → status_at share class ≡ status_at node.share class) → CanApply k.family k.n i cell item →
     cell item.to ≡ cell_at share item.to → Fits share item

@@ -1,8 +1,8 @@
 -- Items that a node of the world applies, its own or those of a batch: where its share takes them, they are applied.
 use Rattle.dob_world.proofs.Common.{◌++◌, ◌<◌, ◌∙◌, ◌∷◌, ◌≡◌, ◌≢◌, ◌⊎◌, Bool, List, [], ap, append_assoc, cond, eqb, false, inl, inr, length, nat_lt, refl, set}
 use Rattle.dob_world.proofs.Common.{slice_get, subst, sym, true, ℕ, and_cases, and_parts, and_right, cases_Bool, cases_eq, eq-eqb, eqb-true, lt-ltb, ltb-true}
-use Rattle.dob_world.proofs.Common.{ne_eqb, append-nil, All-head, All-tail, All, classes_of, CellValue, SameCell, changed, fresh, owner_of, cell_at, Item}
-use Rattle.dob_world.proofs.Common.{Settlement, Share, value_of, CanApply, HistoryView, AreKept, AreTaken, HasItemEntries, IsTaken, Node, Applies, AppliesItems}
+use Rattle.dob_world.proofs.Common.{ne_eqb, append-nil, classes_of, CellValue, SameCell, changed, fresh, owner_of, cell_at, Item}
+use Rattle.dob_world.proofs.Common.{Settlement, Share, value_of, CanApply, HistoryView, AreKept, AreTaken, IsTaken, Node, Applies, AppliesItems}
 use Rattle.dob_world.proofs.Common.{part, nodes_shown, AreLawful, Nodes, Setting, items_in, value_in, Lane}
 use Rattle.std.proofs.Common.{◌&&◌}
 use Rattle.dob_share.specs.Values.{NoWorse}
@@ -16,7 +16,6 @@ use Rattle.dob_world.proofs.InPlace.{at_node, at_link, NodeAt, here, was, elsewh
 use Rattle.dob_world.proofs.Kept.{next_fits, lawful_step, step_grows, next_after}
 
 -- ---- nodes of which one has that share and history, and has applied those items of another
-
 abbrev own_test : Setting → ℕ → ℕ → Bool
 own_test k j class = nat_lt class (classes_of k.family) && eqb (owner_of k.n class) j
 
@@ -147,9 +146,9 @@ module _ (k : Setting) (i j : ℕ) (before : Nodes) (share after : Share) (histo
 module _ (k : Setting) (some : 0 < k.n) (i j : ℕ) (low_i : i < k.n) (low_j : j < k.n) (differs : i ≢ j) (before : Nodes) where
   items_apply : (more : List Item) (share after : Share) (history grown : HistoryView) (items rest : List Item) (old new : Nodes) →
       Holds k i j before share history.settlements items old → Holds k i j before after grown.settlements (items ++ more) new →
-      AreKept k.family k.n j share history → All HasItemEntries more → AreTaken more share after history grown → AreLawful k old →
+      AreKept k.family k.n j share history → AreTaken more share after history grown → AreLawful k old →
       items_in k old i j ≡ old.applied i j ++ (more ++ rest) → AppliesItems k i j more old new
-  items_apply [] share after history grown items rest old new had has kept entries taken lawful is = record {
+  items_apply [] share after history grown items rest old new had has kept taken lawful is = record {
     history = λ m. at_node (λ a. new.history a ≡ old.history a) j m
         (has.history_here ∙ ap (λ (x : HistoryView). x.settlements) taken.1 ∙ sym had.history_here)
         (λ other. has.history_else m other ∙ sym (had.history_else m other));
@@ -160,7 +159,7 @@ module _ (k : Setting) (some : 0 < k.n) (i j : ℕ) (low_i : i < k.n) (low_j : j
       | inr apart ↦ has.cell_else class apart ∙ sym (had.cell_else class apart)
     ];
   }
-  items_apply (item ∷ more) share after history grown items rest old new had has kept entries taken lawful is =
+  items_apply (item ∷ more) share after history grown items rest old new had has kept taken lawful is =
       let mid = with_share k i j before taken.0 taken.1.settlements (items ++ item ∷ []) in
       let held = some_hold k i j before taken.0 taken.1.settlements (items ++ item ∷ []) in
       let step : Applies k i j item old mid = item_applies k i j before share taken.0 history taken.1 items item old mid had held kept taken.2 lawful
@@ -169,8 +168,7 @@ module _ (k : Setting) (some : 0 < k.n) (i j : ℕ) (low_i : i < k.n) (low_j : j
         step,
         items_apply more taken.0 after taken.1 grown (items ++ item ∷ []) rest mid new held
             (subst (λ xs. Holds k i j before after grown.settlements xs new) (sym (append_assoc items (item ∷ []) more)) has)
-            (kept_still k.family k.n j share taken.0 history taken.1 item kept (All-head HasItemEntries item more entries) taken.2)
-            (All-tail HasItemEntries item more entries) taken.3
+            (kept_still k.family k.n j share taken.0 history taken.1 item kept taken.2) taken.3
             (lawful_step k some i j low_i low_j item old lawful (more ++ rest) is mid step)
             (next_after k i j (item ∷ []) (more ++ rest) old mid differs (step_grows k i j item old mid step) is),
       )
@@ -241,9 +239,9 @@ module _ {k : Setting} {nodes : List Node} {lanes : List Lane} {i j place : ℕ}
       item_applies k i j old node.share after.share node.history after.history lane.applied.items item old new holds_before
       (holds_listed (lane.applied.items ++ item ∷ []) listed) kept taken lawful (next_fits k some i j at.low_i at.low_j item old lawful rest is)
 
-  pub applies_many : 0 < k.n → (items rest : List Item) → i ≢ j → AreKept k.family k.n j node.share node.history → All HasItemEntries items →
+  pub applies_many : 0 < k.n → (items rest : List Item) → i ≢ j → AreKept k.family k.n j node.share node.history →
       AreTaken items node.share after.share node.history after.history → AreLawful k old → items_in k old i j ≡ old.applied i j ++ (items ++ rest) →
       next.applied.items ≡ lane.applied.items ++ items → AppliesItems k i j items old new
-  applies_many some items rest differs kept entries taken lawful is listed =
+  applies_many some items rest differs kept taken lawful is listed =
       items_apply k some i j at.low_i at.low_j differs old items node.share after.share node.history after.history lane.applied.items rest old new holds_before
-      (holds_listed (lane.applied.items ++ items) listed) kept entries taken lawful is
+      (holds_listed (lane.applied.items ++ items) listed) kept taken lawful is

@@ -5,7 +5,7 @@ use Rattle.dob_world.proofs.Common.{cond, false, inl, inr, length, refl, slice_g
 use Rattle.dob_world.proofs.Common.{true≢false, ints, take_all, All-nil, All, MatchOption, some_at, one_status, HasStatus, Status, Open, class_setup}
 use Rattle.dob_world.proofs.Common.{classes_of, IsEntry, Draw, predecessors, sum_same, IsRingQuiet, AllTaken, AllWhite, IsLawfulRing, Ring, in_flight}
 use Rattle.dob_world.proofs.Common.{sum_below, Token, CellValue, SameCell, fresh, owner_of, cell_at, places_of, Settlement, Opening, OutboxView}
-use Rattle.dob_world.proofs.Common.{items_of_batches, items_from, Fault, Stopped, kept_sound, below_owner, items_from-append, some_known, start_sums}
+use Rattle.dob_world.proofs.Common.{items_of_batches, items_from, BuildFault, Stopped, kept_sound, below_owner, items_from-append, some_known, start_sums}
 use Rattle.dob_world.proofs.Common.{SumsUp-same, value_follows, IsChained, value_of, known_of, outbox_to, Node, IsStopped, IsWorldUnchanged, CanHappen, Happens}
 use Rattle.dob_world.proofs.Common.{AreBeginnings, HaveKnownValues, Headline, IsBatchTo, EndIsRest, EndIsSilent, HeadlineHolds, RestIsRight, RestStays}
 use Rattle.dob_world.proofs.Common.{LinkView, IsAfter, lane_at, part, ring_of, setting_of, state_of, nodes_shown, world_shown, AreInPlace, HasAtMost}
@@ -15,25 +15,24 @@ use Rattle.dob_world.proofs.Common.{WorldView, emitted_in, items_in, value_in, w
 use Rattle.dob_world.proofs.Common.{World}
 use Rattle.dob_moves.specs.MoveLists.{moves_of}
 use Rattle.dob_share.proofs.Applied.{CellValue-same}
-use Rattle.dob_lawful.specs.Quiet.{FollowsAtStatus}
-use Rattle.dob_lawful.specs.Openings.{AreOpenings}
+use Rattle.dob_history.specs.Quiet.{FollowsAtStatus}
+use Rattle.dob_history.specs.Openings.{AreOpenings}
 use Rattle.dob_history.specs.OpeningLists.{opening_value, opening_settlements, opening_status}
-use Rattle.dob_lawful.specs.Falls.{IsFirst}
-use Rattle.dob_lawful.proofs.Rises.{opened_first, fresh_within, falls_start}
-use Rattle.dob_lawful.proofs.Opens.{listed_opening}
-use Rattle.dob_lawful.proofs.Beginnings.{or_else, closed_follows, opened_value, opened_chained, opened_entries}
+use Rattle.dob_history.specs.Falls.{IsFirst}
+use Rattle.dob_history.proofs.Rises.{opened_first, fresh_within, falls_start}
+use Rattle.dob_history.proofs.Opens.{listed_opening}
+use Rattle.dob_history.proofs.Beginnings.{or_else, closed_follows, opened_value, opened_chained, opened_entries}
 use Rattle.dob_safra.proofs.Quiet.{quiet}
-use Rattle.dob_lawful.proofs.Ends.{lawful_is_right}
+use Rattle.dob_history.proofs.Ends.{lawful_is_right}
 use Rattle.std.proofs.Math.IntN.{pos}
 use Rattle.dob_safra.specs.Rings.{black_token, IsStart as IsStartRing}
 use Rattle.dob_pieces.specs.Lists.{IsBeginning}
-use Rattle.dob_stops.specs.declared.cause.Cause.TheVariants as cause
+use Rattle.dob_share.specs.declared.cause.Cause.TheVariants as cause
 use Rattle.dob_world.proofs.InPlace.{kept_of, lane_read, at_link}
 use Rattle.dob_world.proofs.Firsts.{none_some, nothing_in, front_alone}
 use Rattle.dob_world.proofs.Kept.{lists_are_beginnings, happening_keeps_all, FrontApplied, front_applied, happening_keeps_match, posted_most}
 
 -- ---- opened nodes with empty lanes
-
 part_nil : {X Y : Type 0} (f : X → List Y) (o : Option X) → ((x : X) → o ≡ Some x → f x ≡ []) → part [] f o ≡ []
 part_nil f None none = refl
 part_nil f (Some x) none = none x refl
@@ -196,7 +195,6 @@ end_is_rest k state size matches may =
     white_rest k state matches is.all_white is.all_taken
 
 -- ---- what can happen there
-
 pub rest_stays : RestStays
 rest_stays k old new (Expand i) rest can step = absurd (let e : old.world.expanded i ≡ length (old.world.nodes.history i) = rest.expanded i can.0 in
     omega (arith, can.1))
@@ -223,7 +221,6 @@ end_is_silent k state matches ended = record {
     none Announce can = true≢false (sym ended ∙ can.1)
 
 -- ---- batches in flight
-
 pub flight_waits : (k : Setting) (state : State) → Matches k state → in_flight k.n state.ring ≡ waiting_batches k.n state.world
 flight_waits k state matches =
     sum_same k.n (λ i. sum_below k.n (λ j. length (state.world.waiting i j))) (λ i. sum_below k.n (λ j. state.ring.posted i j - state.ring.taken i j))
@@ -324,7 +321,6 @@ module _ (k : Setting) (setting : IsSetting k) where
   ]
 
 -- ---- the start
-
 start_lawful : (n : ℕ) (ring : Ring) → 0 < n → IsStartRing n ring → IsLawfulRing n ring
 start_lawful n ring some start =
     let at : ring.token.at ≡ 0 = ap (λ (t : Token). t.at) start.token in
@@ -363,7 +359,6 @@ kept_start k state setting start = record {
 }
 
 -- ---- the promise in any world
-
 pub headline_holds : HeadlineHolds
 headline_holds k start state events setting is_start room after =
     let keeps = (kept_after k setting start state events 0 (omega (arith, room)) after (kept_start k start setting is_start)).1 in
@@ -442,12 +437,11 @@ module _ (k : Setting) (old new : WorldView) (some : 0 < k.n) (lawful : AreLawfu
   }
 
 -- ---- after any stop
-
 same_begins : (k : Setting) (old new : WorldView) → AreLawful k old.nodes → IsLinked k old → new ≡ old → AreBeginnings k new
 same_begins k old new lawful linked same = subst (λ (w : WorldView). AreBeginnings k w) (sym same) (begins k old lawful linked)
 
 -- whatever stops a node, what is left of lists and cells is as it should be
-pub left_begins : (k : Setting) (old : State) (event : Event) (fault : Fault) (new : WorldView) → 0 < k.n → AreLawful k old.world.nodes →
+pub left_begins : (k : Setting) (old : State) (event : Event) (fault : BuildFault) (new : WorldView) → 0 < k.n → AreLawful k old.world.nodes →
     IsLinked k old.world → CanHappen k old event → IsLeftBy k old.world event fault new → AreBeginnings k new
 left_begins k old (Take i j) fault new some lawful linked can left = elim left [
   | inl memory ↦ same_begins k old.world new lawful linked memory.1
@@ -456,7 +450,7 @@ left_begins k old (Take i j) fault new some lawful linked can left = elim left [
 left_begins k old _ fault new some lawful linked can left = same_begins k old.world new lawful linked left
 
 -- after lack of memory it is all that there was
-pub left_shown : (k : Setting) (old : WorldView) (event : Event) (fault : Fault) (new : WorldView) → IsLeftBy k old event fault new → IsForMemory fault →
+pub left_shown : (k : Setting) (old : WorldView) (event : Event) (fault : BuildFault) (new : WorldView) → IsLeftBy k old event fault new → IsForMemory fault →
     new ≡ old
 left_shown k old (Take i j) fault new left memory = elim left [
   | inl same ↦ same.1
@@ -472,7 +466,7 @@ stopped_silent old new standing event can same = ap (λ (d : Detector). d.announ
   | inr going ↦ going
 ])
 
-pub stop_leaves : (old new : World) (event : Event) (fault : Fault) → IsStanding old → IsStopped event fault old new → IsLeft fault new
+pub stop_leaves : (old new : World) (event : Event) (fault : BuildFault) → IsStanding old → IsStopped event fault old new → IsLeft fault new
 stop_leaves old new event fault standing stopped =
     let k = setting_of old in
     let shown = left_shown k (state_of old).world event fault (state_of new).world stopped.left in
@@ -486,5 +480,5 @@ stop_leaves old new event fault standing stopped =
           (standing_headline old standing));
     }
 
-pub kept_left : (world : World) (fault : Fault) → world.failed ≡ Some fault → StandsOrStopped world → IsLeft fault world
-kept_left world fault failed kept = subst (λ f. MatchOption f (IsStanding world) (λ (why : Fault). IsLeft why world)) failed kept
+pub kept_left : (world : World) (fault : BuildFault) → world.failed ≡ Some fault → StandsOrStopped world → IsLeft fault world
+kept_left world fault failed kept = subst (λ f. MatchOption f (IsStanding world) (λ (why : BuildFault). IsLeft why world)) failed kept

@@ -16,7 +16,6 @@ use Rattle.dob_world.proofs.Kept.{event_keeps, busy_black}
 use Rattle.dob_world.proofs.Promise.{kept_once}
 
 -- ---- batches cut, after an event
-
 pub next_same : (node after : Node) → (after.family ≡ node.family) × (after.id ≡ node.id) × (after.n ≡ node.n) × (after.expanded ≡ node.expanded) →
     after.outboxes ≡ node.outboxes → (j : ℕ) → (outbox_to after j).next ≡ (outbox_to node j).next
 next_same node after same boxes j = ap (λ (o : OutboxView). o.next) (outbox_same node after j same.0 same.1 same.2 boxes)
@@ -52,7 +51,6 @@ module _ {k : Setting} {nodes : List Node} {lanes : List Lane} {detector : Detec
   cuts_same new stay m l low_m low_l differs = stand.cuts m l low_m low_l differs ∙ sym (stay m l low_m low_l)
 
 -- ---- batches cut, at the start
-
 pub cuts_start : (openings : List Opening) (family : Family) (n : ℕ) (nodes : List Node) (ring : Ring) → AreOpenedNodes openings family n n nodes →
     IsStartRing n ring → AreCutsPosted n nodes ring
 cuts_start openings family n nodes ring opened start i j low_i low_j differs = none_cut (slice_get nodes i) refl ∙ sym (start.posted i j low_i low_j)
@@ -62,7 +60,6 @@ cuts_start openings family n nodes ring opened start i j low_i low_j differs = n
     none_cut (Some node) is = ap (λ (o : OutboxView). o.next) ((opened.each i node is).0.outboxes j)
 
 -- ---- the world stands on
-
 abbrev pub state_at : Setting → List Node → List Lane → Detector → State
 state_at k nodes lanes detector = record { world = world_shown k.family k.n nodes lanes; ring = ring_of detector }
 
@@ -129,7 +126,6 @@ module _ {k : Setting} {nodes : List Node} {lanes : List Lane} {detector : Detec
   batch_waits i j low_i low_j some = omega (arith, stand.matches.posted i j low_i low_j, some)
 
 -- ---- idle nodes
-
 beyond : {X : Type 0} (xs : List X) (i : ℕ) (d : X) → length xs ≤ i → slice_index_or xs i d ≡ d
 beyond [] i d past = refl
 beyond (x ∷ xs) zero d past = absurd (omega arith)

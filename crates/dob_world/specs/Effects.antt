@@ -1,7 +1,7 @@
 -- What an event makes of a world that the program keeps: it is done, skipped, or stops its node.
 use Rattle.std.specs.Prelude.{◌≡◌}
 use Rattle.dob_world.specs.declared.event.Event.{Event}
-use Rattle.dob_stops.specs.declared.fault.Fault.{Fault}
+use Rattle.dob_share.specs.declared.build_fault.BuildFault.{BuildFault}
 use Rattle.dob_world.specs.declared.world.World.{World}
 use Rattle.dob_world.specs.Events.{CanHappen, Happens}
 use Rattle.dob_world.specs.Stops.{IsStopBy, IsLeftBy}
@@ -35,7 +35,7 @@ pub record IsSkipped (event : Event) (old new : World) : Type 0 where
   pub unchanged : IsWorldUnchanged old new
 
 -- It was possible, and has stopped its node: counts, colours, token and the number of steps are as before it.
-pub record IsStopped (event : Event) (fault : Fault) (old new : World) : Type 0 where
+pub record IsStopped (event : Event) (fault : BuildFault) (old new : World) : Type 0 where
   pub setting : setting_of new ≡ setting_of old
   pub stop : IsStopBy (setting_of old) (state_of old) event fault
   pub left : IsLeftBy (setting_of old) (state_of old).world event fault (state_of new).world

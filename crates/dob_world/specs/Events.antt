@@ -5,7 +5,7 @@ use Rattle.dob_share.specs.declared.news.Settlement.{Settlement}
 use Rattle.dob_share.specs.declared.news.Item.{Item}
 use Rattle.dob_share.specs.Items.{items_of}
 use Rattle.dob_update.specs.Batches.{BatchView}
-use Rattle.dob_lawful.specs.Lawful.{AreAfter, IsOneMore, AreSettled}
+use Rattle.dob_history.specs.Lawful.{AreAfter, IsOneMore, AreSettled}
 use Rattle.dob_world.specs.declared.event.Event.{Event}
 use Rattle.dob_safra.specs.declared.event.RingEvent.TheVariants as ring
 use Rattle.dob_safra.specs.Rings.{IsAnnounceable, Moved}
@@ -30,7 +30,6 @@ CanHappen k state (Pass i) = (i < k.n) × (state.ring.token.at ≡ i) × IsNodeI
 CanHappen k state Announce = WorldMayEnd k state × (state.ring.announced ≡ false)
 
 -- ---- what stays
-
 pub record NodesStay (old new : Nodes) : Type 0 where
   pub history : (i : ℕ) → new.history i ≡ old.history i
   pub applied : (i j : ℕ) → new.applied i j ≡ old.applied i j

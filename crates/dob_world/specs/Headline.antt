@@ -7,9 +7,9 @@ use Rattle.dob_rank.specs.Families.{classes_of}
 use Rattle.dob_rank.specs.Families.{class_setup}
 use Rattle.dob_distance.specs.declared.value.Value.{Value}
 use Rattle.dob_value.specs.Follows.{IsValueTable}
-use Rattle.dob_lawful.specs.Histories.{AreValuesBelow}
-use Rattle.dob_lawful.specs.Lawful.{known_of}
-use Rattle.dob_lawful.specs.Quiet.{FollowsAtStatus}
+use Rattle.dob_history.specs.Histories.{AreValuesBelow}
+use Rattle.dob_history.specs.Lawful.{known_of}
+use Rattle.dob_history.specs.Quiet.{FollowsAtStatus}
 use Rattle.dob_safra.specs.Rings.{in_flight}
 use Rattle.dob_world.specs.declared.event.Event.{Event}
 use Rattle.dob_world.specs.Worlds.{Setting, Nodes, WorldView, State, value_in, items_in, AreLawful, IsAtRest, Matches, waiting_batches}

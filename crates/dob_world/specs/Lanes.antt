@@ -1,13 +1,11 @@
 -- What an event makes of a node that it names, and of the lane from one node to another. For the parts of a step and for proofs:
 -- no public call promises it.
 use Rattle.std.specs.Prelude.{◌≡◌, ◌≢◌, ◌<◌, ℕ, [], ◌∷◌, ◌++◌}
-use Rattle.std.specs.List.{All}
 use Rattle.dob_pieces.specs.declared.profile.Family.{Family}
 use Rattle.dob_update.specs.Batches.{BatchView}
 use Rattle.dob_world.specs.Links.{link_of}
-use Rattle.dob_stops.specs.declared.cause.Cause.{Cause}
+use Rattle.dob_share.specs.declared.cause.Cause.{Cause}
 use Rattle.dob_node.specs.declared.node.Node.{Node}
-use Rattle.dob_history.specs.TakenItems.{HasItemEntries}
 use Rattle.dob_node.specs.Nodes.{HasApplied, HasTaken, HasTakenBefore, HasCut}
 use Rattle.dob_world.specs.declared.lane.Lane.{Lane}
 
@@ -15,10 +13,9 @@ use Rattle.dob_world.specs.declared.lane.Lane.{Lane}
 abbrev pub AreTwo : ℕ → ℕ → ℕ → Type 0
 AreTwo n i j = (i < n) × (j < n) × (i ≢ j)
 
--- a batch for one of n nodes, with items that have such values as a table can have
+-- a batch for one of n nodes
 pub record IsBatchTo (family : Family) (n to : ℕ) (batch : BatchView) : Type 0 where
   pub of : (batch.family ≡ family) × (batch.n ≡ n) × (batch.to ≡ to)
-  pub entries : All HasItemEntries batch.items
 
 -- the same batches wait on the lane, and it lists the same items
 pub record LaneStays (old new : Lane) : Type 0 where

@@ -7,8 +7,8 @@ use Rattle.dob_value.specs.Follows.{IsValueTable}
 use Rattle.dob_share.specs.declared.news.Item.{Item}
 use Rattle.dob_share.specs.declared.opening.Opening.{Opening}
 use Rattle.dob_update.specs.Batches.{BatchView}
-use Rattle.dob_lawful.specs.Openings.{AreOpenings}
-use Rattle.dob_lawful.specs.Lawful.{CanApply}
+use Rattle.dob_history.specs.Openings.{AreOpenings}
+use Rattle.dob_history.specs.Lawful.{CanApply}
 use Rattle.dob_safra.specs.Laws.{IsSize}
 use Rattle.dob_world.specs.declared.event.Event.{Event}
 use Rattle.dob_world.specs.Worlds.{Setting, Nodes, WorldView, State, value_in, items_in, AreLawful, IsLinked, IsAtRest, Matches}

@@ -3,8 +3,8 @@ use Rattle.std.specs.Prelude.{◌≡◌, ℕ, ◌+◌, ◌-◌, ◌*◌, ◌<◌
 use Rattle.dob_update.specs.Batches.{AreSizes}
 use Rattle.dob_safra.specs.Laws.{IsSize}
 use Rattle.dob_world.specs.declared.event.Event.{Event}
-use Rattle.dob_stops.specs.declared.fault.Fault.{Fault}
-use Rattle.dob_stops.specs.declared.fault.Fault.TheVariants.{Nodes, Sizes, Stopped, Memory}
+use Rattle.dob_share.specs.declared.build_fault.BuildFault.{BuildFault}
+use Rattle.dob_share.specs.declared.build_fault.BuildFault.TheVariants.{Nodes, Sizes, Stopped, Memory}
 use Rattle.dob_world.specs.declared.world.World.{World}
 use Rattle.dob_world.specs.Worlds.{Setting, State, HaveFallsIn}
 use Rattle.dob_world.specs.Runs.{IsAfter, IsAfterSteps}
@@ -17,7 +17,7 @@ use Rattle.dob_world.specs.Standing.{IsSetting, IsStanding}
 use Rattle.dob_world.specs.Start.{IsWorldStart}
 
 -- Why there is no world of that setting: the first of these that isn't so, or memory is refused where all are.
-abbrev pub HasSettingFault : Setting → Fault → Type 0
+abbrev pub HasSettingFault : Setting → BuildFault → Type 0
 HasSettingFault k Nodes = ¬ IsSize k.n
 HasSettingFault k Sizes = IsSize k.n × (¬ AreSizes k.batch k.capacity)
 HasSettingFault k (Stopped node why) = ⊥
@@ -36,7 +36,7 @@ pub record HasRunEvents (k : Setting) (events : List Event) (world : World) : Ty
   pub falls : HaveFallsIn k (state_of world).world.nodes
 
 -- The opening world is changed by the events up to one at which a node stops.
-pub record HasStoppedAt (k : Setting) (events : List Event) (fault : Fault) : Type 0 where
+pub record HasStoppedAt (k : Setting) (events : List Event) (fault : BuildFault) : Type 0 where
   pub setting : IsSetting k
   pub start : State
   pub is_start : IsWorldStart k start
@@ -87,7 +87,7 @@ pub record HasDriven (old : World) (rounds : ℕ) (given : Bool) (new : World) :
   pub ended : given ≡ true → new.detector.announced ≡ true
 
 -- The world stops at an event of one of so many rounds, and is what that stop leaves of it.
-pub record StopsInRounds (old : World) (rounds : ℕ) (fault : Fault) (new : World) : Type 0 where
+pub record StopsInRounds (old : World) (rounds : ℕ) (fault : BuildFault) (new : World) : Type 0 where
   pub setting : setting_of new ≡ setting_of old
   pub least : old.steps ≤ new.steps
   pub stop : IsStopInRounds (setting_of old) (state_of old) rounds fault (new.steps - old.steps) (state_of new)

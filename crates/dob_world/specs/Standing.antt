@@ -10,11 +10,11 @@ use Rattle.dob_share.specs.Shares.{IsOwn, status_at}
 use Rattle.dob_update.specs.Batches.{AreSizes}
 use Rattle.dob_node.specs.declared.node.Node.{Node}
 use Rattle.dob_node.specs.Nodes.{IsSound}
-use Rattle.dob_lawful.specs.Openings.{AreOpenings}
+use Rattle.dob_history.specs.Openings.{AreOpenings}
 use Rattle.dob_safra.specs.Laws.{IsSize}
 use Rattle.dob_safra.specs.Rings.{Ring, IsLawfulRing}
 use Rattle.dob_world.specs.declared.detector.Detector.{Detector}
-use Rattle.dob_stops.specs.declared.fault.Fault.{Fault}
+use Rattle.dob_share.specs.declared.build_fault.BuildFault.{BuildFault}
 use Rattle.dob_world.specs.declared.lane.Lane.{Lane}
 use Rattle.dob_world.specs.declared.world.World.{World}
 use Rattle.dob_world.specs.Lanes.{IsBatchTo}
@@ -99,7 +99,7 @@ WillStand world = Stand (setting_of world) world.nodes.items world.lanes.items w
 
 -- What a world has left that has stopped for the fault. Its end isn't announced; what was applied is a beginning of what was sent,
 -- each item once, and each cell is what is known; and after a growth that was refused all of the promise holds.
-pub record IsLeft (fault : Fault) (world : World) : Type 0 where
+pub record IsLeft (fault : BuildFault) (world : World) : Type 0 where
   pub stop : IsStop fault
   pub unannounced : world.detector.announced ≡ false
   pub beginnings : AreBeginnings (setting_of world) (state_of world).world

@@ -5,7 +5,7 @@ use Rattle.dob_share.specs.declared.opening.Opening.{Opening}
 use Rattle.dob_world.specs.Links.{link_of}
 use Rattle.dob_node.specs.declared.node.Node.{Node}
 use Rattle.dob_node.specs.Nodes.{IsSound, IsOpened}
-use Rattle.dob_lawful.specs.Openings.{AreOpenings}
+use Rattle.dob_history.specs.Openings.{AreOpenings}
 use Rattle.dob_safra.specs.Rings.{IsStart as IsStartRing}
 use Rattle.dob_world.specs.declared.lane.Lane.{Lane}
 use Rattle.dob_world.specs.Worlds.{Setting, State}

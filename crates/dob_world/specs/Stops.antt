@@ -3,11 +3,11 @@ use Rattle.std.specs.Prelude.{◌≡◌, ℕ, ◌<◌, ◌⊎◌, List, ◌∷�
 use Rattle.dob_share.specs.declared.news.Item.{Item}
 use Rattle.dob_share.specs.Shares.{GoesTooDeep}
 use Rattle.dob_update.specs.Batches.{BatchView}
-use Rattle.dob_stops.specs.declared.cause.Cause.TheVariants as cause
+use Rattle.dob_share.specs.declared.cause.Cause.TheVariants as cause
 use Rattle.dob_world.specs.declared.event.Event.{Event}
 use Rattle.dob_world.specs.declared.event.Event.TheVariants.{Expand, Own, Post, Take, Pass, Announce}
-use Rattle.dob_stops.specs.declared.fault.Fault.{Fault}
-use Rattle.dob_stops.specs.declared.fault.Fault.TheVariants.{Stopped}
+use Rattle.dob_share.specs.declared.build_fault.BuildFault.{BuildFault}
+use Rattle.dob_share.specs.declared.build_fault.BuildFault.TheVariants.{Stopped}
 use Rattle.dob_world.specs.Worlds.{Setting, Nodes, WorldView, State}
 use Rattle.dob_world.specs.Events.{CanHappen, AppliesItems, Stays, LinksStay, OtherLinksStay}
 use Rattle.dob_world.specs.Runs.{IsAfter, IsAfterSteps}
@@ -44,7 +44,7 @@ pub record TakesFront (k : Setting) (i j : ℕ) (old new : WorldView) : Type 0 w
 
 -- What stops the node that makes a step at the event: that a growth was refused, or that an item which it applies goes too
 -- deep. No node stops as it passes the token or announces the end.
-abbrev pub IsCauseOf : Setting → WorldView → Event → Fault → Type 0
+abbrev pub IsCauseOf : Setting → WorldView → Event → BuildFault → Type 0
 IsCauseOf k world (Expand i) fault = fault ≡ Stopped i cause.Memory
 IsCauseOf k world (Own i) fault = (fault ≡ Stopped i cause.Memory) ⊎ ((fault ≡ Stopped i cause.TooDeep) × OwnGoesTooDeep world i)
 IsCauseOf k world (Post i j) fault = fault ≡ Stopped i cause.Memory
@@ -54,7 +54,7 @@ IsCauseOf k world Announce fault = ⊥
 
 -- What is left of nodes and links after that: what there was before the event, but of a batch with an item that goes too deep what was
 -- taken.
-abbrev pub IsLeftBy : Setting → WorldView → Event → Fault → WorldView → Type 0
+abbrev pub IsLeftBy : Setting → WorldView → Event → BuildFault → WorldView → Type 0
 IsLeftBy k old (Expand i) fault new = new ≡ old
 IsLeftBy k old (Own i) fault new = new ≡ old
 IsLeftBy k old (Post i j) fault new = new ≡ old
@@ -63,19 +63,19 @@ IsLeftBy k old (Pass i) fault new = new ≡ old
 IsLeftBy k old Announce fault new = new ≡ old
 
 -- a node has stopped since a growth was refused
-abbrev pub IsForMemory : Fault → Type 0
+abbrev pub IsForMemory : BuildFault → Type 0
 IsForMemory fault = (node : ℕ) × (fault ≡ Stopped node cause.Memory)
 
 -- The event could happen, and it stops its node in its place.
-abbrev pub IsStopBy : Setting → State → Event → Fault → Type 0
+abbrev pub IsStopBy : Setting → State → Event → BuildFault → Type 0
 IsStopBy k state event fault = CanHappen k state event × IsCauseOf k state.world event fault
 
 -- Some event of some state stops a node so; thus never because an item contradicts its cell.
-abbrev pub IsStop : Fault → Type 0
+abbrev pub IsStop : BuildFault → Type 0
 IsStop fault = (k : Setting) × (state : State) × (event : Event) × IsStopBy k state event fault
 
 -- One of the events stops a node, after those before it.
-pub record IsStopIn (k : Setting) (start : State) (events : List Event) (fault : Fault) : Type 0 where
+pub record IsStopIn (k : Setting) (start : State) (events : List Event) (fault : BuildFault) : Type 0 where
   pub place : ℕ
   pub event : Event
   pub there : slice_get events place ≡ Some event
@@ -85,7 +85,7 @@ pub record IsStopIn (k : Setting) (start : State) (events : List Event) (fault :
 
 -- An event of one of so many rounds stops a node, after the rounds before it and the events before it in its own, so many of which are
 -- done; that state is left, with the ring as it was before the event.
-pub record IsStopInRounds (k : Setting) (start : State) (rounds : ℕ) (fault : Fault) (done : ℕ) (new : State) : Type 0 where
+pub record IsStopInRounds (k : Setting) (start : State) (rounds : ℕ) (fault : BuildFault) (done : ℕ) (new : State) : Type 0 where
   pub made : ℕ
   pub few : made < rounds
   pub place : ℕ

@@ -10,9 +10,9 @@ use Rattle.dob_share.specs.Owners.{owner_of}
 use Rattle.dob_share.specs.Cells.{Cell}
 use Rattle.dob_share.specs.Items.{items_from}
 use Rattle.dob_update.specs.Batches.{BatchView, items_of_batches}
-use Rattle.dob_lawful.specs.Histories.{value_of}
-use Rattle.dob_lawful.specs.Lawful.{AreLawfulNodes}
-use Rattle.dob_lawful.specs.Falls.{HaveFalls}
+use Rattle.dob_history.specs.Histories.{value_of}
+use Rattle.dob_history.specs.Lawful.{AreLawfulNodes}
+use Rattle.dob_history.specs.Falls.{HaveFalls}
 use Rattle.dob_safra.specs.Rings.{Ring, sum_below, IsLawfulRing}
 
 -- what a world is made for: a family, the number of nodes, the greatest size of a batch, and the links' capacity

@@ -11,7 +11,7 @@ ghost use Rattle.dob_world.specs.Results.{HasMadeRound, HasDriven, StopsInRounds
 use crate::event::Event;
 use crate::world::World;
 use dob_safra::NodeCount;
-use dob_stops::Fault;
+use dob_share::BuildFault;
 
 impl World {
     /// Makes at most `rounds` rounds of events, up to the first in which no event was done. A round is each node's `Expand`
@@ -23,7 +23,7 @@ impl World {
     ///
     /// `Stopped`, as at a step, and the world is left as that step leaves it; in a set of fewer than 65,535 classes for lack
     /// of memory alone.
-    pub fn drive(&mut self, rounds: u64) -> Result<bool, Fault>
+    pub fn drive(&mut self, rounds: u64) -> Result<bool, BuildFault>
         requires few { self.old.steps + rounds * round_length self.old.node_count ≤ 2 ^ 40 }
         requires standing { IsStanding self.old }
         requires going { self.old.failed ≡ None }
@@ -45,7 +45,7 @@ impl World {
     }
 
     // Makes the events of a round. True if none was done.
-    fn round(&mut self) -> Result<bool, Fault>
+    fn round(&mut self) -> Result<bool, BuildFault>
         requires few { self.old.steps + round_length self.old.node_count ≤ 2 ^ 40 }
         requires standing { IsStanding self.old }
         requires going { self.old.failed ≡ None }

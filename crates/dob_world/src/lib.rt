@@ -30,7 +30,7 @@ mod steps;
 mod tables;
 mod world;
 
-pub use dob_stops::Fault;
+pub use dob_share::BuildFault as Fault;
 pub use event::Event;
 pub use link::{Full, Link};
 pub use list_link::ListLink;

@@ -1,6 +1,6 @@
 // The parts of a world as it is opened: its nodes and its lanes.
 ghost use Rattle.std.specs.Prelude.{◌*◌, IfOk};
-ghost use Rattle.dob_lawful.specs.Openings.{AreOpenings};
+ghost use Rattle.dob_history.specs.Openings.{AreOpenings};
 ghost use Rattle.dob_world.specs.Start.{AreOpenedNodes, AreEmptyLanes};
 
 use crate::lane::Lane;

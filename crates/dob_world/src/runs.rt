@@ -8,7 +8,7 @@ ghost use Rattle.dob_world.specs.Stops.{IsForMemory};
 use crate::event::Event;
 use crate::world::World;
 use dob_pieces::Family;
-use dob_stops::Fault;
+use dob_share::BuildFault;
 use std::alloc::Global;
 
 /// The world of `nodes` nodes, with batches of at most `batch` items and links with room for `capacity` batches, after the
@@ -27,7 +27,7 @@ pub fn run(
     batch: usize,
     capacity: usize,
     events: &[Event],
-) -> Result<World, Fault>
+) -> Result<World, BuildFault>
     requires few { length events.now ≤ 2 ^ 40 }
     ensures run { IfOk result (λ world. HasRunEvents (setting_by family nodes batch capacity) events.now world) }
     ensures memory { classes_of family < 65535 → IfErr result (λ fault. HasSettingFault (setting_by family nodes batch capacity) fault ⊎ IsForMemory fault) }

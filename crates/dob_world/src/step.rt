@@ -3,8 +3,8 @@
 /// Whether an event was done.
 #[derive(Clone, Copy, PartialEq, Eq)]
 pub enum Step {
-    /// It could happen, and did.
+    /// The event could happen, and has.
     Done,
-    /// It couldn't happen, and nothing is changed.
+    /// The event couldn't happen, and nothing is changed.
     Skipped,
 }

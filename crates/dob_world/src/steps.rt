@@ -2,7 +2,7 @@
 ghost use Rattle.std.specs.Prelude.{◌≡◌, ◌≢◌, ◌+◌, ◌<◌, ◌≤◌, ◌^◌, None, Err, ◌↔◌, ◌⊎◌, [], ◌++◌, length, take, vec_len, vec_capacity};
 ghost use Rattle.std.specs.Prelude.{true, false, IfErr, OnOk, OnErr};
 ghost use Rattle.std.specs.List.{All};
-ghost use Rattle.dob_stops.specs.declared.cause.Cause.TheVariants as cause;
+ghost use Rattle.dob_share.specs.declared.cause.Cause.TheVariants as cause;
 ghost use Rattle.dob_node.specs.Nodes.{outbox_to, IsSound, IsUnchanged, HasItemFault};
 ghost use Rattle.dob_world.specs.Lanes.{LaneStays, IsBatchTo, HasListed, HasSentBatch, HasTakenBatch, HasReceivedFront};
 

@@ -3,7 +3,7 @@ ghost use Rattle.std.specs.Prelude.{◌≡◌, ◌<◌, true, IfOk};
 ghost use Rattle.dob_rank.specs.Families.{classes_of};
 ghost use Rattle.dob_distance.specs.Codes.{IsEntry};
 ghost use Rattle.dob_value.specs.Follows.{IsValueTable};
-ghost use Rattle.dob_lawful.specs.Histories.{AreValuesBelow};
+ghost use Rattle.dob_history.specs.Histories.{AreValuesBelow};
 ghost use Rattle.dob_world.specs.Worlds.{value_in, IsAtRest};
 ghost use Rattle.dob_world.specs.Shown.{setting_of, state_of};
 ghost use Rattle.dob_world.specs.Standing.{IsStanding};

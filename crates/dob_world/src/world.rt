@@ -9,12 +9,12 @@ use crate::parts::{open_lanes, open_nodes};
 use crate::step::Step;
 use crate::steps::{apply_own, post, receive};
 use dob_classes::Classes;
-use dob_lawful::opening;
+use dob_history::opening;
 use dob_lists::SegmentLength;
 use dob_node::Node;
 use dob_pieces::Family;
 use dob_safra::NodeCount;
-use dob_stops::Fault;
+use dob_share::BuildFault;
 use dob_update::{BatchSize, Capacity};
 use std::alloc::Global;
 
@@ -32,7 +32,7 @@ pub struct World {
     pub(crate) lanes: Vec<Lane>,
     pub(crate) detector: Detector,
     pub(crate) steps: u64,
-    pub(crate) failed: Option<Fault>,
+    pub(crate) failed: Option<BuildFault>,
     ghost nodes_whole: { vec_len nodes ≡ node_count },
     ghost lanes_whole: { vec_len lanes ≡ node_count * node_count },
 }
@@ -40,7 +40,7 @@ pub struct World {
 impl World {
     ghost use Rattle.dob_world.specs.declared.event.Event.TheVariants.{Expand, Own, Post, Take, Pass, Announce};
     ghost use Rattle.dob_world.specs.Worlds.{setting_by, HaveFallsIn};
-    ghost use Rattle.dob_stops.specs.declared.fault.Fault.TheVariants as fault;
+    ghost use Rattle.dob_share.specs.declared.build_fault.BuildFault.TheVariants as fault;
     ghost use Rattle.dob_world.specs.Stops.{IsStop, IsForMemory};
     ghost use Rattle.dob_world.specs.Shown.{setting_of, state_of};
     ghost use Rattle.dob_world.specs.Standing.{IsStanding, StandsOrStopped};
@@ -63,20 +63,20 @@ impl World {
         nodes: usize,
         batch: usize,
         capacity: usize,
-    ) -> Result<World, Fault>
+    ) -> Result<World, BuildFault>
         ensures setting { IfOk result (λ world. setting_of world ≡ setting_by family nodes batch capacity) }
         ensures standing { IfOk result (λ world. IsStanding world × (world.failed ≡ None) × (world.steps ≡ 0)) }
         ensures opened { IfOk result (λ world. IsWorldStart (setting_of world) (state_of world)) }
         ensures fault { IfErr result (λ fault. HasSettingFault (setting_by family nodes batch capacity) fault) }
     {
         let Some(node_count) = NodeCount::new(nodes) else {
-            return Err(Fault::Nodes);
+            return Err(BuildFault::Nodes);
         };
         let Some(batch_size) = BatchSize::new(batch) else {
-            return Err(Fault::Sizes);
+            return Err(BuildFault::Sizes);
         };
         let Some(capacity) = Capacity::new(capacity) else {
-            return Err(Fault::Sizes);
+            return Err(BuildFault::Sizes);
         };
         let classes = Classes::open(alloc, family)?;
         let openings = opening(alloc, &classes, SegmentLength::longest())?;
@@ -106,7 +106,7 @@ impl World {
     /// event, and so are all lists, but where an item of a batch goes too deep: then only the items before it are applied, and the
     /// batch waits no more. In each case what was applied is a beginning of what was sent, and each cell is what is known.
     /// In a set of fewer than 65,535 classes it stops for lack of memory alone.
-    pub fn step(&mut self, event: Event) -> Result<Step, Fault>
+    pub fn step(&mut self, event: Event) -> Result<Step, BuildFault>
         requires few { self.old.steps < 2 ^ 40 }
         requires kept { StandsOrStopped self.old }
         ensures done { result ≡ Ok Step.Done → IsMade event self.old self.new × (self.new.steps ≡ self.old.steps + 1) }
@@ -143,7 +143,7 @@ impl World {
     }
 
     // Makes the event happen, which isn't counted yet. False if it can't.
-    fn make(&mut self, event: Event) -> Result<bool, Fault>
+    fn make(&mut self, event: Event) -> Result<bool, BuildFault>
         requires standing { IsStanding self.old }
         requires few { self.old.steps < 2 ^ 40 }
         ensures done { result ≡ Ok true → IsEventDone event self.old self.new }
@@ -189,7 +189,7 @@ impl World {
     }
 
     // The next settlement of a node becomes items. False if there is none.
-    fn expand(&mut self, node: usize) -> Result<bool, Fault>
+    fn expand(&mut self, node: usize) -> Result<bool, BuildFault>
         requires standing { IsStanding self.old }
         requires few { self.old.steps < 2 ^ 40 }
         ensures done { result ≡ Ok true → IsEventDone (Expand node) self.old self.new }
@@ -201,12 +201,12 @@ impl World {
         }
         match self.nodes[node].expand(&self.classes) {
             Ok(happened) => Ok(happened),
-            Err(cause) => Err(Fault::Stopped { node, cause }),
+            Err(cause) => Err(BuildFault::Stopped { node, cause }),
         }
     }
 
     // The first own item of a node is applied. False if there is none.
-    fn own(&mut self, node: usize) -> Result<bool, Fault>
+    fn own(&mut self, node: usize) -> Result<bool, BuildFault>
         requires standing { IsStanding self.old }
         requires few { self.old.steps < 2 ^ 40 }
         ensures done { result ≡ Ok true → IsEventDone (Own node) self.old self.new }
@@ -219,12 +219,12 @@ impl World {
         let place = self.lane_place(node, node);
         match apply_own(&mut self.nodes[node], &mut self.lanes[place]) {
             Ok(happened) => Ok(happened),
-            Err(cause) => Err(Fault::Stopped { node, cause }),
+            Err(cause) => Err(BuildFault::Stopped { node, cause }),
         }
     }
 
     // A node posts a batch to another one. False if it has nothing to send, or the link has no room.
-    fn post(&mut self, from: usize, to: usize) -> Result<bool, Fault>
+    fn post(&mut self, from: usize, to: usize) -> Result<bool, BuildFault>
         requires standing { IsStanding self.old }
         requires few { self.old.steps < 2 ^ 40 }
         ensures done { result ≡ Ok true → IsEventDone (Post from to) self.old self.new }
@@ -245,12 +245,12 @@ impl World {
                 Ok(true)
             }
             Ok(false) => Ok(false),
-            Err(cause) => Err(Fault::Stopped { node: from, cause }),
+            Err(cause) => Err(BuildFault::Stopped { node: from, cause }),
         }
     }
 
     // A node takes a batch of another one. False if none waits.
-    fn take(&mut self, from: usize, to: usize) -> Result<bool, Fault>
+    fn take(&mut self, from: usize, to: usize) -> Result<bool, BuildFault>
         requires standing { IsStanding self.old }
         requires few { self.old.steps < 2 ^ 40 }
         ensures done { result ≡ Ok true → IsEventDone (Take from to) self.old self.new }
@@ -266,7 +266,7 @@ impl World {
                 Ok(true)
             }
             Ok(false) => Ok(false),
-            Err(cause) => Err(Fault::Stopped { node: to, cause }),
+            Err(cause) => Err(BuildFault::Stopped { node: to, cause }),
         }
     }
 

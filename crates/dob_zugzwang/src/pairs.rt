@@ -2,13 +2,14 @@
 ghost use Rattle.std.specs.Prelude.{◌≡◌, ◌<◌, ◌↔◌, ℕ, IfOk, MatchOption, Some, length, slice_get, true};
 ghost use Rattle.dob_pieces.specs.Setups.{turned};
 ghost use Rattle.dob_moves.specs.declared.position_status.Status.{Status};
+ghost use Rattle.dob_moves.specs.Shown.{setup_on};
 ghost use Rattle.dob_moves.specs.Statuses.{HasStatus};
 ghost use Rattle.dob_zugzwang.specs.Zugzwangs.{AreBothOpen, IsWorse};
 ghost use Rattle.dob_zugzwang.specs.Pairs.{ArePairs, IsOpenTurn, IsPairAt};
 
-use dob_moves::{Status, status};
-use dob_pieces::{Memory, Position, Profile};
-use dob_value::{Table, Value};
+use dob_moves::PositionBoard;
+use dob_pieces::{Memory, Profile};
+use dob_value::{Table, Value, class_of, representative_of};
 use rayon::prelude::*;
 use std::alloc::Global;
 use std::thread::Threads;
@@ -55,7 +56,7 @@ fn pair_at(table: &Table, class: u64) -> Option<Zugzwang>
     if is_win(value) {
         return None;
     }
-    let position = table.classes().class_at(class);
+    let position = representative_of(table.classes(), class);
     match open_turn(table.family().profile, &position) {
         None => None,
         Some(turn) => pair_with(table, class, value, &turn),
@@ -63,12 +64,12 @@ fn pair_at(table: &Table, class: u64) -> Option<Zugzwang>
 }
 
 // The same of a class with that value, whose representative has that turn, where both are open.
-fn pair_with(table: &Table, class: u64, value: Value, turn: &Position) -> Option<Zugzwang>
+fn pair_with(table: &Table, class: u64, value: Value, turn: &PositionBoard) -> Option<Zugzwang>
     requires value { slice_get table.now.values class ≡ Some value }
-    requires turn { IsOpenTurn table.now class turn.now.setup }
+    requires turn { IsOpenTurn table.now class (setup_on turn.now.board) }
     ensures { IsPairAt table.now class result }
 {
-    let turn_class = table.classes().class_of(turn);
+    let turn_class = class_of(table.classes(), turn);
     let turn_value = table.value(turn_class);
     if turn_class < class {
         return None;
@@ -85,36 +86,30 @@ fn pair_with(table: &Table, class: u64, value: Value, turn: &Position) -> Option
 }
 
 // The position's turn, where both are open.
-fn open_turn(profile: Profile, position: &Position) -> Option<Position>
-    ensures { MatchOption result (¬ AreBothOpen profile position.now.setup) (λ turn. (turn.setup ≡ turned position.now.setup) × AreBothOpen profile position.now.setup) }
+fn open_turn(profile: Profile, position: &PositionBoard) -> Option<PositionBoard>
+    ensures { MatchOption result (¬ AreBothOpen profile (setup_on position.now.board))
+        (λ turn. (setup_on turn.board ≡ turned (setup_on position.now.board)) × AreBothOpen profile (setup_on position.now.board)) }
 {
-    if !is_open(status(profile, position)) {
+    if !position.status(profile).is_open() {
         return None;
     }
     let turn = turn_of_open(profile, position);
-    if is_open(status(profile, &turn)) {
+    if turn.status(profile).is_open() {
         Some(turn)
     } else {
         None
     }
 }
 
-// The turn of an open position.
-fn turn_of_open(profile: Profile, position: &Position) -> Position
-    requires { HasStatus profile position.now.setup Status.Open }
-    ensures { result.setup ≡ turned position.now.setup }
+fn turn_of_open(profile: Profile, position: &PositionBoard) -> PositionBoard
+    requires { HasStatus profile (setup_on position.now.board) Status.Open }
+    ensures { setup_on result.board ≡ turned (setup_on position.now.board) }
 {
-    Position::new(position.turned())
+    // By each profile the same positions are open, so only the contract names this one.
+    let _ = profile;
+    PositionBoard::new(position.board.turned())
 }
 
-// Whether it is the status of an open position.
-fn is_open(status: Status) -> bool
-    ensures { (result ≡ true) ↔ (status ≡ Status.Open) }
-{
-    matches!(status, Status::Open)
-}
-
-// Whether the value is a win.
 fn is_win(value: Value) -> bool
     ensures { (result ≡ true) ↔ ((plies : ℕ) × (value ≡ Value.Win plies)) }
 {
@@ -135,7 +130,6 @@ fn is_worse(value: Value, turn_value: Value) -> bool
     }
 }
 
-// Whether the value is a loss.
 fn is_loss(value: Value) -> bool
     ensures { (result ≡ true) ↔ ((plies : ℕ) × (value ≡ Value.Loss plies)) }
 {

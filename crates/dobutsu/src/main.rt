@@ -1,8 +1,9 @@
 // The program `dobutsu`: its arguments, its streams, its files and its exit status.
 //
 // Choices:
-// - Closed standard streams are filled with /dev/null by three opens at the start of `main`, since an open takes the lowest number that is free. One run is
-//   stored, of a position, since a crate has one and a test can't call `main`.
+// - Closed standard streams are filled with /dev/null by three opens at the start of `main`, since an open takes the lowest number that is free. It is opened
+//   for reading alone, so that what is written to a stream that was closed fails. One run is stored, of a position, since a crate has one and a test can't
+//   call `main`.
 #![tactic(auto)]
 
 use dob_cli::{Device, DiskShelf, ErrorRecorder, LastError, run_given};
@@ -14,7 +15,7 @@ use std::process::ExitCode;
 fn main(rt: HostRuntime) -> ExitCode {
     // These take the numbers of standard streams that were closed, so that no file that is opened later does.
     let mut how = OpenOptions::new();
-    how.read(true).write(true);
+    how.read(true);
     let _streams = [
         how.open(&rt, "/dev/null"),
         how.open(&rt, "/dev/null"),

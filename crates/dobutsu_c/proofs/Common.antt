@@ -22,7 +22,7 @@ pub use Rattle.dob_rank.proofs.OfFamilies.ClassBounds.{classes_of-below}
 pub use Rattle.dob_rank.specs.Families.{IsPositionOf, RepresentsClass, class_number, classes_of}
 pub use Rattle.dob_classes.proofs.OfFamilies.FamilyNumbers.{IsInClass-class_number, class_number-below}
 pub use Rattle.dob_classes.proofs.OfFamilies.FamilyRepresentatives.{one_class}
-pub use Rattle.dob_value.proofs.Successors.{move_goes, moves_keep_the_family}
+pub use Rattle.dob_value.proofs.Successors.{moves_keep_the_family}
 pub use Rattle.dob_value.specs.Follows.{ClassTable, IsConsistent, IsValueTable}
 pub use Rattle.dob_distance.specs.Values.{HasValue}
 pub use Rattle.dob_distance.specs.declared.value.Value.{Value}
@@ -51,7 +51,7 @@ pub use Rattle.dobutsu_c.specs.Positions.{IsShown}
 pub use Rattle.dobutsu_c.specs.Probed.{IsAnswer, IsExact}
 pub use Rattle.dobutsu_c.specs.Probes.{AreRead, HasProbeFault, IsAsked, IsGiven, IsTextOf, IsTold, shown}
 pub use Rattle.dobutsu_c.specs.declared.by_index.ByFault.{ByFault}
-pub use Rattle.dobutsu_c.specs.declared.fault.Fault.{Fault}
+pub use Rattle.dobutsu_c.specs.declared.fault.QuestionFault.{QuestionFault}
 pub use Rattle.dobutsu_c.specs.declared.many.DobutsuAnswer.{DobutsuAnswer}
 pub use Rattle.dobutsu_c.specs.declared.moves.DobutsuMove.{DobutsuMove}
 pub use Rattle.dobutsu_c.specs.declared.numbering.Numbering.{Numbering}

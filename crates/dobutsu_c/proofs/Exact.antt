@@ -1,20 +1,19 @@
 -- At most one fault holds, none where the position is one of the file's family, and a position is given one value.
 use Rattle.dobutsu_c.proofs.Common.{◌<◌, ◌≡◌, ◌≢◌, List, ap, refl, ℕ, Family, A, Setup, same_spelled, TextFault, IsPositionOf, class_number, classes_of}
 use Rattle.dobutsu_c.proofs.Common.{IsInClass-class_number, class_number-below, one_class, ClassTable, IsValueTable, HasValue, Value, whole, CountsClasses}
-use Rattle.dobutsu_c.proofs.Common.{HasReadFault, IsNoLonger, IsFile, Format, AreRead, HasProbeFault, IsAsked, IsGiven, IsTextOf, IsTold, Fault}
+use Rattle.dobutsu_c.proofs.Common.{HasReadFault, IsNoLonger, IsFile, Format, AreRead, HasProbeFault, IsAsked, IsGiven, IsTextOf, IsTold, QuestionFault}
 use Rattle.dob_text.specs.Faults.{HasTextFault}
 use Rattle.dob_text.proofs.Verdicts as texts
 use Rattle.dob_dbfile.specs.declared.fault.Fault.{Fault as FileFault}
 use Rattle.dob_dbfile.specs.declared.fault.Fault.TheVariants as file_fault
 use Rattle.dob_dbfile.proofs.Looked.{one_record, table_family, table_record}
 use Rattle.dob_dbfile.proofs.Places as files
-use Rattle.dobutsu_c.specs.declared.fault.Fault.TheVariants.{Text, File, Member}
+use Rattle.dobutsu_c.specs.declared.fault.QuestionFault.TheVariants.{Text, File, Member}
 use Rattle.dobutsu_c.specs.declared.fault.Stranger.{Stranger}
 use Rattle.dobutsu_c.specs.declared.fault.Stranger.TheVariants.{FarChick, OtherSet}
 use Rattle.dobutsu_c.specs.Faults.{IsStranger}
 
 -- ---- one position, one format, one family
-
 pub no_text_fault : (text : List ℕ) (setup : Setup) (fault : TextFault) → IsTextOf text setup → HasTextFault A text fault → ⊥
 no_text_fault text setup fault is wrong = texts.no_fault A text setup fault is.0 refl is.1 wrong
 
@@ -30,7 +29,6 @@ by_read file text f g p q s t P at_s at_t holds =
     rw (head.0, head.1, same_spelled text s t at_s.0.1 at_t.0.1) at holds
 
 -- ---- faults
-
 pub no_stranger : (family : Family) (p : Setup) (stranger : Stranger) → IsPositionOf family p → IsStranger family p stranger → ⊥
 no_stranger family p FarChick member wrong = wrong member.allowed
 no_stranger family p OtherSet member wrong = wrong.1 member.of_set
@@ -41,7 +39,7 @@ one_stranger family p FarChick OtherSet at_s at_t = absurd (at_s at_t.0)
 one_stranger family p OtherSet FarChick at_s at_t = absurd (at_t at_s.0)
 one_stranger family p OtherSet OtherSet at_s at_t = refl
 
-pub no_fault : (file text : List ℕ) (format : Format) (family : Family) (setup : Setup) (fault : Fault) → IsAsked file text format family setup
+pub no_fault : (file text : List ℕ) (format : Format) (family : Family) (setup : Setup) (fault : QuestionFault) → IsAsked file text format family setup
     → HasProbeFault file text fault → ⊥
 no_fault file text format family setup (Text fault) asked wrong = no_text_fault text setup fault asked.0.0 wrong
 no_fault file text format family setup (File fault) asked wrong = no_file_fault file format family fault asked.0.1 wrong.2 wrong.3
@@ -49,20 +47,19 @@ no_fault file text format family setup (Member stranger) asked wrong =
     no_stranger wrong.1 wrong.2 stranger
     (by_read file text format wrong.0 family wrong.1 setup wrong.2 (λ (f : Format) (p : Family) (s : Setup). IsPositionOf p s) asked.0 wrong.3 asked.1) wrong.4
 
-pub one_fault : (file text : List ℕ) (f g : Fault) → HasProbeFault file text f → HasProbeFault file text g → f ≡ g
-one_fault file text (Text f) (Text g) at_f at_g = ap (λ (h : TextFault). let fault : Fault = Text h in fault) (texts.one_fault A text f g at_f at_g)
+pub one_fault : (file text : List ℕ) (f g : QuestionFault) → HasProbeFault file text f → HasProbeFault file text g → f ≡ g
+one_fault file text (Text f) (Text g) at_f at_g = ap (λ (h : TextFault). let fault : QuestionFault = Text h in fault) (texts.one_fault A text f g at_f at_g)
 one_fault file text (Text f) (File g) at_f at_g = absurd (no_text_fault text at_g.0 f at_g.1 at_f)
 one_fault file text (Text f) (Member g) at_f at_g = absurd (no_text_fault text at_g.2 f at_g.3.0 at_f)
 one_fault file text (File f) (Text g) at_f at_g = absurd (no_text_fault text at_f.0 g at_f.1 at_g)
-one_fault file text (File f) (File g) at_f at_g = ap (λ (h : FileFault). let fault : Fault = File h in fault) (files.one_fault (whole file) f g at_f.2 at_g.2)
+one_fault file text (File f) (File g) at_f at_g = ap (λ (h : FileFault). let fault : QuestionFault = File h in fault) (files.one_fault (whole file) f g at_f.2 at_g.2)
 one_fault file text (File f) (Member g) at_f at_g = absurd (no_file_fault file at_g.0 at_g.1 f at_g.3.1 at_f.2 at_f.3)
 one_fault file text (Member f) (Text g) at_f at_g = absurd (no_text_fault text at_f.2 g at_f.3.0 at_g)
 one_fault file text (Member f) (File g) at_f at_g = absurd (no_file_fault file at_f.0 at_f.1 g at_f.3.1 at_g.2 at_g.3)
-one_fault file text (Member f) (Member g) at_f at_g = ap (λ (h : Stranger). let fault : Fault = Member h in fault) (one_stranger at_g.1 at_g.2 f g
+one_fault file text (Member f) (Member g) at_f at_g = ap (λ (h : Stranger). let fault : QuestionFault = Member h in fault) (one_stranger at_g.1 at_g.2 f g
     (by_read file text at_f.0 at_g.0 at_f.1 at_g.1 at_f.2 at_g.2 (λ (k : Format) (p : Family) (s : Setup). IsStranger p s f) at_f.3 at_g.3 at_f.4) at_g.4)
 
 -- ---- values
-
 pub one_given : (file : List ℕ) (format : Format) (family : Family) (setup : Setup) (v w : Value) → IsGiven file format family setup v
     → IsGiven file format family setup w → v ≡ w
 one_given file format family setup v w at_v at_w =

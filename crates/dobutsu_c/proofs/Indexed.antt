@@ -2,10 +2,10 @@
 use Rattle.dobutsu_c.proofs.Common.{◌*◌, ◌+◌, ◌-◌, ◌/◌, ◌^◌, ◌∙◌, ◌≡◌, ◌≤◌, List, None, Option, Some, ap, arith, drop, get_or, inl, inr, length, refl, sym}
 use Rattle.dobutsu_c.proofs.Common.{take, ℕ, Family, Profile, Setup, classes_of-below, classes_of, Value, IsIndex, whole, IsNoLonger, NamesFamily}
 use Rattle.dobutsu_c.proofs.Common.{count_place, header_len, count_bytes, Format, HasByFault, IsGivenBy, IsIndexFor, IsMarkedBy, IsRight, IsToldBy, number_by}
-use Rattle.dobutsu_c.proofs.Common.{fault_number, AreRead, HasProbeFault, IsAsked, IsGiven, IsTextOf, IsTold, ByFault, Fault, Numbering}
+use Rattle.dobutsu_c.proofs.Common.{fault_number, AreRead, HasProbeFault, IsAsked, IsGiven, IsTextOf, IsTold, ByFault, QuestionFault, Numbering}
 use Rattle.dob_rank.proofs.Positions.Sets.{same_numbers}
 use Rattle.dob_dbfile.proofs.Places.{same_head}
-use Rattle.dobutsu_c.specs.declared.fault.Fault.TheVariants.{Text, File, Member}
+use Rattle.dobutsu_c.specs.declared.fault.QuestionFault.TheVariants.{Text, File, Member}
 use Rattle.dobutsu_c.specs.declared.numbering.Numbering.TheVariants as numbering
 use Rattle.dobutsu_c.specs.declared.by_index.ByFault.TheVariants.{Asked, Index}
 use Rattle.dob_foreign.specs.Profiles.{profile_number}
@@ -14,11 +14,11 @@ use Rattle.dobutsu_c.specs.ByIndex.{IsLongFor, IsHeldBy, IsAskedBy, AreNoIndex, 
 use Rattle.dobutsu_c.proofs.Exact.{no_text_fault, no_file_fault, no_fault, one_fault}
 
 -- ---- one family has those numbers
-
 same_profile : (p q : Profile) → profile_number p ≡ profile_number q → p ≡ q
 same_profile p q is = grind arith
 
-pub one_family : (chicks elephants giraffes profile : ℕ) (f g : Family) → IsFamily chicks elephants giraffes profile f → IsFamily chicks elephants giraffes profile g
+pub one_family : (chicks elephants giraffes profile : ℕ) (f g : Family) → IsFamily chicks elephants giraffes profile f
+    → IsFamily chicks elephants giraffes profile g
     → f ≡ g
 one_family chicks elephants giraffes profile f g is also =
     rw (
@@ -66,7 +66,6 @@ pub both : {X : Type 0} (found : Option X) (x : X) → found ≡ None → found 
 both found x none some = (let e : (let o : Option _ = None in o) ≡ Some x = sym none ∙ some in cc)
 
 -- ---- what is asked
-
 pub by_file : (file text : List ℕ) (by : Numbering) (setup : Setup) (fault : ByFault) → IsTextOf text setup → HasHeldFault file by fault
     → HasByFault file text by fault
 by_file file text by setup Index named is = (is.0, is.1, setup, named, elim is.2 [ inl unmarked ↦ inl unmarked | inr whole ↦ inr (whole.1, inl whole.0) ])
@@ -102,13 +101,14 @@ told_by_right file text by value for is = (
 -- ---- faults
 
 -- the numbers are no index of the family that the file names
-no_index : (file : List ℕ) (by : Numbering) (format : Format) (family : Family) (setup : Setup) → IsIndexFor file by → AreNoIndex file by format family setup → ⊥
+no_index : (file : List ℕ) (by : Numbering) (format : Format) (family : Family) (setup : Setup) → IsIndexFor file by → AreNoIndex file by format family setup
+    → ⊥
 no_index file by format family setup for (inl unmarked) = unmarked.0 (right_marked by family (for format family unmarked.2.named))
 no_index file by format family setup for (inr (none, inl read)) = none (for format family read.0.0.0)
 no_index file by format family setup for (inr (none, inr fits)) = none (for format family fits.1.named)
 
 pub some_fault_by : (file text : List ℕ) (by : Numbering) (given : ByFault) → IsIndexFor file by → HasByFault file text by given
-    → (fault : Fault) × HasProbeFault file text fault × (number_by given ≡ fault_number fault)
+    → (fault : QuestionFault) × HasProbeFault file text fault × (number_by given ≡ fault_number fault)
 some_fault_by file text by (Asked (Member stranger)) for is =
     (Member stranger, (is.0, is.1, is.3, read_by file text by is.0 is.1 is.2 is.3 for is.4.0 is.4.1, is.5), refl)
 some_fault_by file text by Index for is = absurd (no_index file by is.0 is.1 is.2 for is.4)
@@ -120,7 +120,7 @@ no_fault_by file text by format family setup given for asked wrong =
     let some = some_fault_by file text by given for wrong in
     no_fault file text format family setup some.0 asked some.1
 
-pub one_fault_by : (file text : List ℕ) (by : Numbering) (given : ByFault) (fault : Fault) → IsIndexFor file by → HasByFault file text by given
+pub one_fault_by : (file text : List ℕ) (by : Numbering) (given : ByFault) (fault : QuestionFault) → IsIndexFor file by → HasByFault file text by given
     → HasProbeFault file text fault → number_by given ≡ fault_number fault
 one_fault_by file text by given fault for is holds =
     let some = some_fault_by file text by given for is in
@@ -129,7 +129,8 @@ one_fault_by file text by given fault for is holds =
 -- ---- numbers that aren't marked as an index of the file's family
 
 -- the family that a file names is the one that it is held by
-marked_by : (file : List ℕ) (by : Numbering) (format f : Format) (family g : Family) (classes : ℕ) → IsHeldBy file by format family classes → NamesFamily f g file
+marked_by : (file : List ℕ) (by : Numbering) (format f : Format) (family g : Family) (classes : ℕ) → IsHeldBy file by format family classes
+    → NamesFamily f g file
     → (IsMarkedBy by g → ⊥) → ⊥
 marked_by file by format f family g classes held names wrong = wrong (rw (same_head format f family g file held.named names).1 at held.marked)
 

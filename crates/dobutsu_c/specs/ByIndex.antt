@@ -14,7 +14,7 @@ use Rattle.dob_dbfile.specs.declared.fault.Fault.TheVariants as file_fault
 use Rattle.dob_dbfile.specs.Faults.{NamesFamily, HasReadFault, IsNoLonger, count_place, header_len}
 use Rattle.dob_dbfile.specs.Format.{count_bytes}
 use Rattle.dob_dbfile.specs.Looking.{HasRecord}
-use Rattle.dobutsu_c.specs.declared.fault.Fault.TheVariants.{Text, File, Member}
+use Rattle.dobutsu_c.specs.declared.fault.QuestionFault.TheVariants.{Text, File, Member}
 use Rattle.dobutsu_c.specs.declared.fault.Stranger.{Stranger}
 use Rattle.dobutsu_c.specs.declared.numbering.Numbering.{Numbering}
 use Rattle.dobutsu_c.specs.declared.numbering.Numbering.TheVariants as numbering

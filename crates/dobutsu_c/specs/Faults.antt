@@ -5,8 +5,8 @@ use Rattle.dob_pieces.specs.declared.setup.Setup.{Setup}
 use Rattle.dob_pieces.specs.Profiles.{IsAllowed}
 use Rattle.dob_rank.specs.Order.{IsPositionOfSet}
 use Rattle.dob_foreign.specs.Faults.{file_number, text_number}
-use Rattle.dobutsu_c.specs.declared.fault.Fault.{Fault}
-use Rattle.dobutsu_c.specs.declared.fault.Fault.TheVariants.{Text, File, Member}
+use Rattle.dobutsu_c.specs.declared.fault.QuestionFault.{QuestionFault}
+use Rattle.dobutsu_c.specs.declared.fault.QuestionFault.TheVariants.{Text, File, Member}
 use Rattle.dobutsu_c.specs.declared.fault.Stranger.{Stranger}
 use Rattle.dobutsu_c.specs.declared.fault.Stranger.TheVariants.{FarChick, OtherSet}
 
@@ -19,7 +19,7 @@ abbrev pub stranger_number : Stranger → ℕ
 stranger_number FarChick = 26
 stranger_number OtherSet = 7
 
-abbrev pub fault_number : Fault → ℕ
+abbrev pub fault_number : QuestionFault → ℕ
 fault_number (Text fault) = text_number fault
 fault_number (File fault) = file_number fault
 fault_number (Member stranger) = stranger_number stranger

@@ -17,7 +17,7 @@ use Rattle.dobutsu_c.specs.declared.moves.DobutsuMove.{DobutsuMove}
 use Rattle.dobutsu_c.specs.declared.by_index.ByFault.{ByFault}
 use Rattle.dobutsu_c.specs.declared.numbering.Numbering.{Numbering}
 use Rattle.dobutsu_c.specs.declared.value.DobutsuValue.{DobutsuValue}
-use Rattle.dobutsu_c.specs.declared.fault.Fault.{Fault}
+use Rattle.dobutsu_c.specs.declared.fault.QuestionFault.{QuestionFault}
 use Rattle.dobutsu_c.specs.ByIndex.{IsAskedBy, IsGivenBy, IsIndexFor, IsMarkedBy, HasByFault, number_by}
 use Rattle.dobutsu_c.specs.Faults.{fault_number}
 use Rattle.dobutsu_c.specs.Probes.{AreRead, IsAsked, IsGiven, IsTextOf, HasProbeFault, shown}
@@ -34,7 +34,8 @@ shown_valued valued = shown_move valued.played (shown valued.value)
 
 -- the moves stand in the first places, as far as there are places, and the others hold what they held
 pub record AreWritten (list : List ValuedMove) (old new : List DobutsuMove) : Type 0 where
-  pub moves : (place : ℕ) (d : ValuedMove) (e : DobutsuMove) → place < length list → place < length new → get_or new place e ≡ shown_valued (get_or list place d)
+  pub moves : (place : ℕ) (d : ValuedMove) (e : DobutsuMove) → place < length list → place < length new
+      → get_or new place e ≡ shown_valued (get_or list place d)
   pub others : (place : ℕ) (e : DobutsuMove) → length list ≤ place → get_or new place e ≡ get_or old place e
 
 -- the moves of the position that is asked for, best first, by what the file gives the positions that they lead to
@@ -68,8 +69,8 @@ pub record AreExactMoves (file text : List ℕ) (old new : List DobutsuMove) (co
   pub given : number ≡ 0 → (list : List ValuedMove) × AreToldMoves file text list × AreWritten list old new × (count ≡ length list)
   pub right : (table : ClassTable) (setup : Setup) → IsFile file table → IsValueTable table.family table.values → IsTextOf text setup → number ≡ 0
       → (list : List ValuedMove) × AreValuedMoves table.family.profile (HasValue table.family.profile) setup list × AreWritten list old new × (count ≡ length list)
-  pub refused : number ≢ 0 → (number ≡ 23) ⊎ ((fault : Fault) × HasProbeFault file text fault × (number ≡ fault_number fault))
-  pub first : (fault : Fault) → HasProbeFault file text fault → number ≡ fault_number fault
+  pub refused : number ≢ 0 → (number ≡ 23) ⊎ ((fault : QuestionFault) × HasProbeFault file text fault × (number ≡ fault_number fault))
+  pub first : (fault : QuestionFault) → HasProbeFault file text fault → number ≡ fault_number fault
 
 -- With the index of the file's family it is so; and with any numbers the values are those of some records of the file, or the fault is one that they have too.
 pub record AreAnsweredMoves (file : List ℕ) (by : Numbering) (text : List ℕ) (old new : List DobutsuMove) (count number : ℕ) : Type 0 where

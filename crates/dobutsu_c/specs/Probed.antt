@@ -8,7 +8,7 @@ use Rattle.dob_distance.specs.Values.{HasValue}
 use Rattle.dob_dbfile.specs.declared.header.Format.{Format}
 use Rattle.dob_dbfile.specs.Format.{IsFile}
 use Rattle.dobutsu_c.specs.declared.by_index.ByFault.{ByFault}
-use Rattle.dobutsu_c.specs.declared.fault.Fault.{Fault}
+use Rattle.dobutsu_c.specs.declared.fault.QuestionFault.{QuestionFault}
 use Rattle.dobutsu_c.specs.declared.numbering.Numbering.{Numbering}
 use Rattle.dobutsu_c.specs.declared.value.DobutsuValue.{DobutsuValue}
 use Rattle.dobutsu_c.specs.ByIndex.{IsIndexFor, IsMarkedBy, IsToldBy, HasByFault, number_by}
@@ -22,8 +22,8 @@ pub record IsExact (file text : List ℕ) (old new : DobutsuValue) (number : ℕ
   pub told : (value : Value) → IsTold file text value → (number ≡ 0) × (new ≡ shown value)
   pub right : (table : ClassTable) (setup : Setup) → IsFile file table → IsValueTable table.family table.values → IsTextOf text setup → number ≡ 0
       → (value : Value) × HasValue table.family.profile setup value × (new ≡ shown value)
-  pub refused : number ≢ 0 → (fault : Fault) × HasProbeFault file text fault × (number ≡ fault_number fault)
-  pub first : (fault : Fault) → HasProbeFault file text fault → number ≡ fault_number fault
+  pub refused : number ≢ 0 → (fault : QuestionFault) × HasProbeFault file text fault × (number ≡ fault_number fault)
+  pub first : (fault : QuestionFault) → HasProbeFault file text fault → number ≡ fault_number fault
   pub unchanged : number ≢ 0 → new ≡ old
 
 -- With the index of the file's family it is so; and with any numbers the value is that of some record of the file, or the fault is one that they have too.

@@ -15,8 +15,8 @@ use Rattle.dob_device.specs.Devices.{whole}
 use Rattle.dob_dbfile.specs.Faults.{HasReadFault, IsNoLonger}
 use Rattle.dob_dbfile.specs.Looking.{HasRecord}
 use Rattle.dob_foreign.specs.Values.{outcome_number}
-use Rattle.dobutsu_c.specs.declared.fault.Fault.{Fault}
-use Rattle.dobutsu_c.specs.declared.fault.Fault.TheVariants.{Text, File, Member}
+use Rattle.dobutsu_c.specs.declared.fault.QuestionFault.{QuestionFault}
+use Rattle.dobutsu_c.specs.declared.fault.QuestionFault.TheVariants.{Text, File, Member}
 use Rattle.dobutsu_c.specs.declared.value.DobutsuValue.{DobutsuValue}
 use Rattle.dobutsu_c.specs.Faults.{IsStranger}
 
@@ -46,7 +46,7 @@ IsTold file text value =
     (format : Format) × (family : Family) × (setup : Setup) × IsAsked file text format family setup × IsGiven file format family setup value
 
 -- the first fault: of the text, of the file but for its digest, and of the position in the file
-abbrev pub HasProbeFault : List ℕ → List ℕ → Fault → Type 0
+abbrev pub HasProbeFault : List ℕ → List ℕ → QuestionFault → Type 0
 HasProbeFault file text (Text fault) = HasTextFault A text fault
 HasProbeFault file text (File fault) = (setup : Setup) × IsTextOf text setup × HasReadFault (whole file) fault × (fault ≢ file_fault.Digest)
 HasProbeFault file text (Member stranger) =

@@ -17,7 +17,6 @@ pub(crate) fn answer_text(file: &[u8], by: Numbering, text: &[u8], answer: &mut 
     told(probe_by(file, by, text), answer)
 }
 
-/// Answers the position.
 pub(crate) fn answer_position(
     file: &[u8],
     by: Numbering,

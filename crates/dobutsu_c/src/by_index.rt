@@ -11,7 +11,7 @@ ghost use Rattle.dobutsu_c.specs.declared.numbering.Numbering.TheVariants.{Count
 ghost use Rattle.dobutsu_c.specs.ByIndex.{IsRight, IsLongFor, IsHeldBy, IsAskedBy, IsGivenBy, IsToldBy, HasByFault, HasFileFault, HasHeldFault};
 ghost use Rattle.dobutsu_c.specs.Probes.{IsTextOf};
 
-use crate::fault::{Fault, check_member};
+use crate::fault::{QuestionFault, check_member};
 use crate::numbering::Numbering;
 use crate::numbers::INDEX;
 use dob_dbfile::{Format, held_counted, held_family, held_value};
@@ -29,7 +29,7 @@ const MOST_CLASSES: u64 = 1 << 42;
 /// A fault of what is asked, or that the numbers are no index of the file's family.
 #[derive(Clone, Copy)]
 pub(crate) enum ByFault {
-    Asked(Fault),
+    Asked(QuestionFault),
     Index,
 }
 
@@ -71,7 +71,7 @@ pub(crate) fn ask_by(file: &[u8], by: Numbering, text: &[u8]) -> Result<AskedBy,
 {
     match read_position_bytes(Profile::A, text) {
         Ok(position) => ask_at(file, by, position),
-        Err(fault) => Err(ByFault::Asked(Fault::Text(fault))),
+        Err(fault) => Err(ByFault::Asked(QuestionFault::Text(fault))),
     }
 }
 
@@ -87,7 +87,7 @@ pub(crate) fn ask_at(file: &[u8], by: Numbering, position: Position) -> Result<A
     };
     match check_member(held.family, &position) {
         Ok(()) => Ok(AskedBy { held, position }),
-        Err(stranger) => Err(ByFault::Asked(Fault::Member(stranger))),
+        Err(stranger) => Err(ByFault::Asked(QuestionFault::Member(stranger))),
     }
 }
 
@@ -97,7 +97,7 @@ pub(crate) fn probe_by(file: &[u8], by: Numbering, text: &[u8]) -> Result<Value,
 {
     match read_position_bytes(Profile::A, text) {
         Ok(position) => probe_at(file, by, position),
-        Err(fault) => Err(ByFault::Asked(Fault::Text(fault))),
+        Err(fault) => Err(ByFault::Asked(QuestionFault::Text(fault))),
     }
 }
 
@@ -129,7 +129,7 @@ fn held_by(file: &[u8], by: Numbering) -> Result<HeldBy, ByFault>
     }
 }
 
-// The same where classes are counted.
+// What the header says, where a position's class is found by counting those before it.
 fn held_counting(file: &[u8]) -> Result<HeldBy, ByFault>
     ensures { MatchResult result
         (λ held. IsHeldBy file.now Counted held.format held.family held.classes)
@@ -141,7 +141,7 @@ fn held_counting(file: &[u8]) -> Result<HeldBy, ByFault>
             family,
             classes: classes_by_length(file),
         }),
-        Err(fault) => Err(ByFault::Asked(Fault::File(fault))),
+        Err(fault) => Err(ByFault::Asked(QuestionFault::File(fault))),
     }
 }
 
@@ -171,7 +171,7 @@ fn fault_of(file: &[u8]) -> ByFault
 {
     match held_family(file) {
         Ok(_) => ByFault::Index,
-        Err(fault) => ByFault::Asked(Fault::File(fault)),
+        Err(fault) => ByFault::Asked(QuestionFault::File(fault)),
     }
 }
 

@@ -66,7 +66,6 @@ pub extern "C" fn dobutsu_verify(
     }
 }
 
-/// The number of a defect.
 pub(crate) fn defect_number(defect: Defect) -> u32
     ensures number { result ≡ defect_number defect }
     ensures positive { result ≢ 0 }
@@ -90,7 +89,6 @@ pub(crate) fn defect_number(defect: Defect) -> u32
     }
 }
 
-// What the file claims.
 fn told(file: &CertificateFile) -> DobutsuClaim
     ensures { IsToldOf (content file.now) result }
 {

@@ -57,7 +57,6 @@ pub(crate) fn family_of(
     Ok(Family { set, profile })
 }
 
-// The set of these pieces.
 fn set_of(chicks: u32, elephants: u32, giraffes: u32) -> Option<PieceSet>
     ensures some { IfSome result (λ set. (set.chicks ≡ chicks) × (set.elephants ≡ elephants) × (set.giraffes ≡ giraffes)) }
     ensures none { MatchOption result ((chicks ≤ 2 → elephants ≤ 2 → giraffes ≤ 2 → ⊥)) (λ _. (chicks ≤ 2) × (elephants ≤ 2) × (giraffes ≤ 2)) }

@@ -10,7 +10,7 @@ use dob_text::TextFault;
 
 /// A fault of a text, of a file, or of the position in the file.
 #[derive(Clone, Copy)]
-pub(crate) enum Fault {
+pub(crate) enum QuestionFault {
     /// The text is no position's.
     Text(TextFault),
     /// The bytes are no table's file, as far as they are looked at.
@@ -28,16 +28,16 @@ pub(crate) enum Stranger {
     OtherSet,
 }
 
-impl Fault {
+impl QuestionFault {
     /// The fault's number, which the program prints behind an `E`.
     pub(crate) fn number(self) -> u32
         ensures number { result ≡ fault_number self }
         ensures positive { result ≢ 0 }
     {
         match self {
-            Fault::Text(fault) => text_number(fault),
-            Fault::File(fault) => file_number(fault),
-            Fault::Member(stranger) => stranger.number(),
+            QuestionFault::Text(fault) => text_number(fault),
+            QuestionFault::File(fault) => file_number(fault),
+            QuestionFault::Member(stranger) => stranger.number(),
         }
     }
 }

@@ -41,7 +41,6 @@ fn text_of(name: &str) -> DobutsuText
     }
 }
 
-// The name of the fault of that number.
 fn name_of(fault: u32) -> &'static str
     ensures name { result.now ≡ name_of fault }
     ensures few { length result.now ≤ 32 }
@@ -98,7 +97,7 @@ fn next_name_of(fault: u32) -> &'static str
     }
 }
 
-// Of those of a certificate.
+// The names of a certificate's faults, E30 to E42.
 fn last_name_of(fault: u32) -> &'static str
     requires low { 30 ≤ fault }
     requires high { fault < 43 }

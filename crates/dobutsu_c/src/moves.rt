@@ -57,7 +57,6 @@ pub(crate) fn write_moves(places: &mut [DobutsuMove], list: &[ValuedMove])
     }
 }
 
-/// The move with its value, as it is shown.
 pub(crate) fn shown_move(played: Move, value: DobutsuValue) -> DobutsuMove
     ensures { result ≡ shown_move played value }
 {

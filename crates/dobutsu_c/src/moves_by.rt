@@ -9,7 +9,7 @@ use crate::by_index::{ByFault, HeldBy, ask_by, value_by};
 use crate::moves::{DobutsuMove, write_moves};
 use crate::numbering::Numbering;
 use crate::numbers::{INCONSISTENT, MEMORY};
-use dob_pieces::Position;
+use dob_moves::PositionBoard;
 use dob_probe::{LookupFault, ValueSource, ValuedMove, moves_by};
 use dob_value::Value;
 use std::alloc::Global;
@@ -87,7 +87,6 @@ fn told_moves(
     }
 }
 
-// The number of the fault.
 fn number_of(gap: LookupFault<ByFault>) -> u32
     ensures number { result ≡ gap_number gap }
     ensures positive { result ≢ 0 }
@@ -127,8 +126,8 @@ impl ValueSource<()> for Bytes<'_> {
 
     ghost is_failure = { λ _. false };
 
-    fn value_at(&self, _source: &mut (), position: &Position) -> Result<Value, ByFault> {
-        match value_by(self.file, self.by, self.held, position) {
+    fn value_at(&self, _source: &mut (), position: &PositionBoard) -> Result<Value, ByFault> {
+        match value_by(self.file, self.by, self.held, &position.position()) {
             Some(value) => Ok(value),
             None => Err(ByFault::Index),
         }

@@ -65,7 +65,6 @@ pub(crate) fn shown_position(position: &Position) -> DobutsuPosition
     }
 }
 
-// The hand as numbers.
 fn hand_numbers(hand: Hand) -> DobutsuHand
     ensures { result ≡ hand_numbers hand }
 {
@@ -76,7 +75,6 @@ fn hand_numbers(hand: Hand) -> DobutsuHand
     }
 }
 
-// The hand of those numbers.
 fn hand_of(numbers: DobutsuHand) -> Hand
     ensures { hand_numbers result ≡ numbers }
 {
@@ -87,7 +85,6 @@ fn hand_of(numbers: DobutsuHand) -> Hand
     }
 }
 
-// The board of those numbers.
 fn board_of(numbers: &[u8; 12]) -> Option<[Option<Piece>; Square::COUNT]>
     ensures { MatchOption result ((setup : AnySetup) → ¬ IsShownBoard numbers.now setup.board) (λ board. IsShownBoard numbers.now board) }
 {

@@ -127,7 +127,6 @@ fn reply_of(
     }
 }
 
-// The reply as it is shown.
 fn shown_reply(found: Reply) -> DobutsuMove
     ensures { result ≡ shown_reply found }
 {

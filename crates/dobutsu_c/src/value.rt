@@ -14,7 +14,6 @@ pub struct DobutsuValue {
     pub plies: u32,
 }
 
-// The value as it is shown.
 pub(crate) fn shown(value: Value) -> DobutsuValue
     ensures { result ≡ shown value }
 {

@@ -23,7 +23,6 @@ use Rattle.dob_certificate.specs.declared.list_kind.ListKind.{ListKind}
 use Rattle.dob_certificate.proofs.Orders.{no_entry, one_place}
 
 -- ---- the position of a rank
-
 pub record IsOfRank (family : Family) (rank : ℕ) (p : Setup) : Type 0 where
   pub position : IsPositionOf family p
   pub rank_is : rank_of family p ≡ rank
@@ -46,7 +45,6 @@ ranked_only family rank p below is same =
     rank_of-same family p (ranked_setup family rank) is there.position (same ∙ sym there.rank_is)
 
 -- ---- the class of a representative
-
 pub has_class : (family : Family) (p : Setup) → IsRepresentative family p → HasClass family p (class_number family p)
 has_class family p is = subst (HasClass family p) (sym (class_number-representative family p is.0 is.1)) (HasClass-marked family p is.0)
 
@@ -74,7 +72,6 @@ first_by family rank p earlier below is rank_is stands earlier_is n n_is =
     )
 
 -- ---- ascending ranks
-
 pub ascending : (family : Family) (ranks plies : List ℕ) → AreRanks family ranks plies → IsStrictlyIncreasing ranks
 ascending family ranks plies are = λ k within.
     let above = (are.each (k + 1) within).above (omega arith) in

@@ -34,7 +34,6 @@ pub record AreRanks (family : Family) (ranks plies : List ℕ) : Type 0 where
   pub each : (place : ℕ) → place < length ranks → IsRankAt family ranks place
 
 -- ---- the same of a list that is handed on
-
 abbrev pub entries_in : Listed → List Entry
 entries_in listed = entries_by listed.family listed.ranks.now listed.plies.now
 

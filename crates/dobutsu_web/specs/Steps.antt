@@ -37,7 +37,6 @@ abbrev pub IsStepShown : Family → Setup → ℕ → DobutsuPlacedStep → Type
 IsStepShown family p there step = IsShownMove family p there step ⊎ IsShownCatch p there step
 
 -- ---- of the position that is asked for
-
 abbrev pub IsToldStep : List ℕ → ℕ → ℕ → DobutsuPlacedStep → Type 0
 IsToldStep text number there step = (family : Family) × (setup : Setup) × IsTextAsked text number family setup × IsStepShown family setup there step
 

@@ -8,6 +8,7 @@ ghost use Rattle.dob_rank.specs.Order.{IsFirstOfTwo, RepresentativeOf};
 ghost use Rattle.dobutsu_web.specs.Ranked.{AreRanksIn, IsRankAt, entries_in, ranked_setup};
 
 use dob_certificate::Lookup;
+use dob_moves::PositionBoard;
 use dob_pieces::{Family, Position};
 use dob_rank::{rank, size, unrank};
 
@@ -19,7 +20,7 @@ pub(crate) struct Listed<'a> {
     pub(crate) plies: &'a [u16],
 }
 
-/// Whether they are that.
+/// Whether each rank is a representative's, above the one before, and has its plies.
 pub(crate) fn are_ranks(listed: &Listed) -> bool
     ensures { IsTrue result ↔ AreRanksIn listed.now }
 {
@@ -81,8 +82,8 @@ impl Lookup for Listed<'_> {
 
     ghost entries_of = { λ listed. entries_in listed };
 
-    fn plies_for(&self, family: Family, position: &Position) -> Option<u16> {
-        let earlier = rank_of_earlier(family, position);
+    fn plies_for(&self, family: Family, position: &PositionBoard) -> Option<u16> {
+        let earlier = rank_of_earlier(family, &position.position());
         match place_of(self.ranks, earlier) {
             Some(place) => Some(self.plies[place]),
             None => None,
@@ -93,8 +94,9 @@ impl Lookup for Listed<'_> {
         self.ranks.len()
     }
 
-    fn entry_at(&self, _family: Family, place: usize) -> Option<(Position, u16)> {
-        Some((position_at(self, place), plies_at(self, place)))
+    fn entry_at(&self, _family: Family, place: usize) -> Option<(PositionBoard, u16)> {
+        let position = PositionBoard::of(&position_at(self, place));
+        Some((position, plies_at(self, place)))
     }
 }
 
@@ -107,7 +109,6 @@ fn position_at(listed: &Listed, place: usize) -> Position
     unrank(listed.family, u64::from(listed.ranks[place]))
 }
 
-// Its plies.
 fn plies_at(listed: &Listed, place: usize) -> u16
     requires ranks { AreRanksIn listed.now }
     requires within { place < length listed.now.ranks.now }

@@ -10,7 +10,7 @@ ghost use Rattle.dobutsu_web.specs.Asked.{IsTextAsked, IsRefused};
 
 use crate::asked::ask;
 use dob_foreign::status_number;
-use dob_moves::status_and_count;
+use dob_moves::PositionBoard;
 
 /// The status of the position, 0 if it is open, 1 if the enemy lion can be caught, 2 if it has tried, 3 if there is no move, and
 /// how many moves it has, 0 if it isn't open. It answers 0 and writes both, or a fault as `dobutsu_class` does.
@@ -28,7 +28,9 @@ pub extern "C" fn dobutsu_status(
 {
     match ask(text, profile) {
         Ok(asked) => {
-            let (found, number) = status_and_count(asked.family.profile, &asked.position);
+            let (found, number) = PositionBoard::of(&asked.position).status_and_count(
+                asked.family.profile,
+            );
             *status = status_number(found);
             *count = u32::from(number);
             0

@@ -70,7 +70,6 @@ pub extern "C" fn dobutsu_after(
     }
 }
 
-// The text of a move.
 fn move_text(played: &Move, second: bool) -> DobutsuText
     ensures { IsText result (move_text played.now second) }
 {

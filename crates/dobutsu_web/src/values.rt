@@ -63,7 +63,6 @@ fn value_of(bytes: &[u8]) -> Option<Value>
     }
 }
 
-// The value as it is shown_value.
 fn shown_value(value: Value) -> DobutsuValue
     ensures { result ≡ shown_value value }
 {

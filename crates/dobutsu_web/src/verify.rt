@@ -12,6 +12,7 @@ use crate::claims::claim_of;
 use crate::numbers::{CLAIM, CLAIM_BYTE, NO_ROW, UNSUPPORTED};
 use crate::ranked::{Listed, are_ranks};
 use dob_certificate::{Claim, ListKind, first_broken, is_shown};
+use dob_moves::PositionBoard;
 use dob_pieces::Position;
 
 /// Whether the two lists of a certificate prove what is claimed of the position of that text: a draw, a win or a loss in N plies where `kind` is 0, 1 or 2, a
@@ -105,7 +106,10 @@ fn answer_after(
             *broken = lost.ranks.len() as u64 + place as u64;
             UNSUPPORTED
         }
-        None => shown_number(is_shown(lost.family, lost, held, position, claim)),
+        None => {
+            let position = PositionBoard::of(position);
+            shown_number(is_shown(lost.family, lost, held, &position, claim))
+        }
     }
 }
 

@@ -132,7 +132,6 @@ told_before family block run place on within below upto kind =
     (marks_below-upto (is_there family block run) place (run_size family.set block) upto) kind))
 
 -- ---- a position's block, run and place
-
 pub record AreBefore (family : Family) (s : Setup) (runs places : ℕ) : Type 0 where
   pub sum_is : runs + places ≡ classes_to_setup family s
   pub few : runs + places ≤ 2 ^ 42

@@ -18,7 +18,6 @@ use Rattle.dob_rank.proofs.ProfileB.PlaceParts.{others_squares_are, others_forms
 use Rattle.dob_classes.proofs.MarksOfRuns.FamilyMarks.{all_alike}
 
 -- ---- the forms up to one
-
 next : (x y z : ℕ) → x + y ≡ z → z + 1 ≡ x + (y + 1)
 next x y z e = omega (arith, e)
 
@@ -207,12 +206,10 @@ count_is set block run last n r a lions first second before upto ob within below
     }
 
 -- ---- in profile A each place is one of the family's
-
 pub all_there : (family : Family) (block run n : ℕ) → family.profile ≡ A → marks_below (is_there family block run) n ≡ n
 all_there family block run n a = all_alike (is_there family block run) true n (λ k low. there family (run_start family.set block run + k) a)
 
 -- ---- a position's number in its run
-
 pub number_by_digits : (set : PieceSet) (s : Setup) (ob ds : List ℕ) (run lions forms number : ℕ) → IsPositionOf (family_of set B) s → ob ≡ on_board s
     → ds ≡ digits s → run ≡ run_of set s → lions ≡ run % lion_pairs → forms ≡ allowed_number (may_have B) 4 (order Chicks) 0 s.board
     → number ≡ local_in B ob ds lions forms

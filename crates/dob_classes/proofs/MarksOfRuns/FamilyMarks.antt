@@ -217,7 +217,6 @@ marks_of_runs family block zero within upto = grind (arith, run_start_first)
 marks_of_runs family block (suc run) within upto = grind (arith, classes_before_next, (marks_of_runs family block run within (omega (arith, upto))))
 
 -- ---- the place of a position
-
 pub mark_of_number : (family : Family) (block run number place : ℕ) → IsNumbered family block run number place → IsMarkedBy family block run number place
 mark_of_number family block run number place at = grind (arith, marks_below-rises, only_numbered, marked_in_run, classes_before_place)
 

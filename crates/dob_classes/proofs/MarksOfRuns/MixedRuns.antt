@@ -21,7 +21,7 @@ use Rattle.dob_rank.proofs.Boards.FormDigits.{AreLayers-map, cell_of-cell, forms
 -- ---- squares
 
 -- the layers up to one give the choice that it makes on the mirror image
-image_choice : (t : ℕ) (s : Setup) → t < order Empty → length s.board ≡ 12 →
+pub image_choice : (t : ℕ) (s : Setup) → t < order Empty → length s.board ≡ 12 →
     choice t (map layer (mirrored s).board) ≡ choice t (mirror_layers (hide (suc t) (map layer s.board)))
 image_choice t s low twelve =
     ap (choice t) (layers-mirrored s twelve)
@@ -52,7 +52,7 @@ lions_hidden set p q hp hq same =
 -- ---- forms
 
 -- a cell if it is of that layer
-abbrev shown : ℕ → Cell → Cell
+abbrev pub shown : ℕ → Cell → Cell
 shown t cell = cond (eqb (layer cell) t) cell None
 
 shown_same : (t : ℕ) (cell : Cell) → layer cell ≡ t → shown t cell ≡ cell
@@ -65,12 +65,12 @@ count_shown : (t : ℕ) (cells : List Cell) → t < order Empty → count t (map
 count_shown t [] low = refl
 count_shown t (cell ∷ cells) low = grind (arith, shown_same, shown_other, count_other, (count_shown t cells low))
 
-forms_shown : (t : ℕ) (cells : List Cell) → t < order Empty → forms_number t (map (shown t) cells) ≡ forms_number t cells
+pub forms_shown : (t : ℕ) (cells : List Cell) → t < order Empty → forms_number t (map (shown t) cells) ≡ forms_number t cells
 forms_shown t [] low = refl
 forms_shown t (cell ∷ cells) low = search (rules, shown_same, forms_number_same, count_shown, shown_other, forms_number_other, (forms_shown t cells low))
 
 -- the forms number of a layer gives its cells, where the layers are known
-same_shown : (t : ℕ) (xs ys : List Cell) → map layer xs ≡ map layer ys → forms_number t xs ≡ forms_number t ys → map (shown t) xs ≡ map (shown t) ys
+pub same_shown : (t : ℕ) (xs ys : List Cell) → map layer xs ≡ map layer ys → forms_number t xs ≡ forms_number t ys → map (shown t) xs ≡ map (shown t) ys
 same_shown t [] [] layers forms = refl
 same_shown t [] (y ∷ ys) layers forms = absurd cc
 same_shown t (x ∷ xs) [] layers forms = absurd cc
@@ -99,10 +99,10 @@ same_shown t (x ∷ xs) (y ∷ ys) layers forms =
     join : (x y : Cell) (xs ys : List Cell) → x ≡ y → xs ≡ ys → x ∷ xs ≡ y ∷ ys
     join x y xs ys e f = cc
 
-abbrev mirror_cells : List Cell → List Cell
+abbrev pub mirror_cells : List Cell → List Cell
 mirror_cells cells = board_by (λ k. slice_index_or cells (mirrored_square k) None)
 
-shown_mirror : (t : ℕ) (cells : List Cell) → length cells ≡ 12 → map (shown t) (mirror_cells cells) ≡ mirror_cells (map (shown t) cells)
+pub shown_mirror : (t : ℕ) (cells : List Cell) → length cells ≡ 12 → map (shown t) (mirror_cells cells) ≡ mirror_cells (map (shown t) cells)
 shown_mirror t (a ∷ b ∷ c ∷ d ∷ e ∷ i ∷ j ∷ k ∷ l ∷ m ∷ n ∷ o ∷ []) eq = refl
 shown_mirror t cells eq = absurd (omega arith)
 
@@ -110,7 +110,7 @@ mirrored_cells : (s : Setup) → (mirrored s).board ≡ mirror_cells s.board
 unfolding mirrored
 mirrored_cells s = refl
 
-image_forms : (t : ℕ) (s : Setup) → t < order Empty → length s.board ≡ 12 →
+pub image_forms : (t : ℕ) (s : Setup) → t < order Empty → length s.board ≡ 12 →
     forms_number t (mirrored s).board ≡ forms_number t (mirror_cells (map (shown t) s.board))
 image_forms t s low twelve =
     sym (forms_shown t (mirrored s).board low)
@@ -177,7 +177,6 @@ image_digits set p q two n same = take_alike (local_digits (mirrored p)) (local_
     (λ k low. sym (get_or-take n (local_digits p) k 0 low) ∙ ap (λ (xs : List ℕ). get_or xs k 0) same ∙ get_or-take n (local_digits q) k 0 low))
 
 -- ---- the first digits of a number
-
 HasDigits-take : (bs ds : List ℕ) (n : ℕ) → HasDigits bs ds → HasDigits (take n bs) (take n ds)
 HasDigits-take bs ds zero h = tt
 HasDigits-take [] [] (suc n) h = tt
@@ -197,7 +196,7 @@ first_digits bs ds n h =
     ∙ div-mul-add (number_of (take n bs) (take n ds)) (product (drop n bs)) (number_of (drop n bs) (drop n ds))
     (number_of-below (drop n bs) (drop n ds) (HasDigits-drop bs ds n h))
 
-same_digits : (bs xs ys : List ℕ) → HasDigits bs xs → HasDigits bs ys → number_of bs xs ≡ number_of bs ys → xs ≡ ys
+pub same_digits : (bs xs ys : List ℕ) → HasDigits bs xs → HasDigits bs ys → number_of bs xs ≡ number_of bs ys → xs ≡ ys
 same_digits bs xs ys h k e = sym (digits_of-number_of bs xs h) ∙ ap (digits_of bs) e ∙ digits_of-number_of bs ys k
 
 -- ---- the parts of a place in a run
@@ -206,11 +205,11 @@ same_digits bs xs ys h k e = sym (digits_of-number_of bs xs h) ∙ ap (digits_of
 abbrev pub weight : List ℕ → ℕ → ℕ
 weight ob n = product (drop n (local_bases ob))
 
-HasDigits-local : (set : PieceSet) (s : Setup) (ob : List ℕ) → IsPositionOfSet set s → on_board s ≡ ob → HasDigits (local_bases ob) (local_digits s)
+pub HasDigits-local : (set : PieceSet) (s : Setup) (ob : List ℕ) → IsPositionOfSet set s → on_board s ≡ ob → HasDigits (local_bases ob) (local_digits s)
 HasDigits-local set s ob p is =
     subst (λ (xs : List ℕ). HasDigits (local_bases xs) (local_digits s)) is (HasDigits-digits set s (HasParts-from_position set s p)).1.1.1.1.1
 
-local_of-digits : (s : Setup) → local_of s ≡ number_of (local_bases (on_board s)) (local_digits s)
+pub local_of-digits : (s : Setup) → local_of s ≡ number_of (local_bases (on_board s)) (local_digits s)
 unfolding local_of
 local_of-digits s = refl
 
@@ -235,7 +234,6 @@ image_part set p q ob n two is same =
     ∙ sym (first_part set (mirrored q) ob n (IsPositionOfSet-mirrored set q two.second) (on_board-mirrored q two.second.legal.squares ∙ is_q))
 
 -- ---- the position at a spot
-
 pub record IsAtSpot (set : PieceSet) (block run local : ℕ) (s : Setup) : Type 0 where
   pub position : IsPositionOfSet set s
   pub on_board_is : on_board s ≡ digits_of (block_bases set) block
@@ -257,7 +255,7 @@ at_spot set block run local s below there =
     }
 
 -- its image stands in the same run, where that is mixed
-image_place : (set : PieceSet) (block run local : ℕ) (s : Setup) → local < run_size set block →
+pub image_place : (set : PieceSet) (block run local : ℕ) (s : Setup) → local < run_size set block →
     HasBlock set block (run * run_size set block + local) s → run_kind (run % lion_pairs) ≡ Mixed →
     place_of set (mirrored s) ≡ run * run_size set block + local_of (mirrored s)
 image_place set block run local s below there kind =
@@ -292,7 +290,6 @@ mixed_mark set block run local s below there kind =
     ]
 
 -- ---- what one place says of others
-
 quotient-rises : (a b w : ℕ) → a ≤ b → a / w ≤ b / w
 quotient-rises a b zero le = omega arith
 quotient-rises a b (suc w) le = grind (arith, le-div)

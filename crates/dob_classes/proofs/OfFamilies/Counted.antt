@@ -9,7 +9,6 @@ use Rattle.std.proofs.lemmas.List.Sorted.{IsPermutation-remove, Contains-permuta
 use Rattle.dob_pieces.proofs.Lists.{cons_cases}
 
 -- ---- lists without repeats
-
 pub pairs-head : {X : Type 0} (R : X → X → Type 0) (x : X) (xs : List X) → AllPairs R (x ∷ xs) → All (R x) xs
 pairs-head R x xs h = λ k d lt. h 0 (suc k) d (omega arith) (omega arith)
 

@@ -8,7 +8,6 @@ use Rattle.dob_rank.proofs.OfFamilies.Present.{marked}
 use Rattle.dob_rank.proofs.Marked.Representatives.{has_representative_of_set, rank_of_first}
 
 -- ---- marks below a place rise with the place
-
 pub marks_below-rises : (mark : ℕ → Bool) (m n : ℕ) → mark m ≡ true → m < n → marks_below mark m < marks_below mark n
 marks_below-rises mark m n on h =
     omega (arith, marks_below_more mark m, let one : one_if (mark m) ≡ 1 = ap one_if on in one, marks_below-upto mark (suc m) n (omega arith))
@@ -24,7 +23,6 @@ pub below_by_marks : (mark : ℕ → Bool) (m n : ℕ) → marks_below mark m < 
 below_by_marks mark m n lt = grind (arith, marks_below-upto mark n m)
 
 -- ---- a position and its mirror image
-
 pub IsPositionOf-mirrored : (family : Family) (s : Setup) → IsPositionOf family s → IsPositionOf family (mirrored s)
 IsPositionOf-mirrored family s p = search (rules, IsPositionOfSet-mirrored, IsAllowed-mirrored)
 
@@ -68,7 +66,6 @@ pub earlier_in : (family : Family) (s : Setup) → IsPositionOf family s → (re
 earlier_in family s p = (let r = has_representative_of_set family.set s p.of_set in (r.0, earlier_is family s r.0 p r.1))
 
 -- ---- the class of a position
-
 pub IsInClass-class_number : (family : Family) (s : Setup) → IsPositionOf family s → IsInClass family s (class_number family s)
 IsInClass-class_number family s p =
     let e = earlier_in family s p in

@@ -14,7 +14,6 @@ use Rattle.dob_classes.proofs.OfFamilies.FamilyNumbers.{IsAtClass, IsInClass-cla
 use Rattle.dob_classes.proofs.OfFamilies.FamilyNumbers.{earlier_is, marks_below-rises, number_told}
 
 -- ---- a position and its mirror image
-
 pub has_representative : (family : Family) (p : Setup) → IsPositionOf family p → (representative : Setup) × RepresentativeOf p representative
 has_representative family p is = has_representative_of_set family.set p is.of_set
 

@@ -19,7 +19,6 @@ use Rattle.dob_classes.proofs.Counting.FarCounts.{all_there, same_left}
 use Rattle.dob_classes.proofs.Tables.Pushed.{each_pushed}
 
 -- ---- the place of a number
-
 pub few_on_board : (block : BlockClasses) → AreFewOnBoard block.on_board
 few_on_board block = AreFewOnBoard-digits block.family.set block.on_board (HasDigits-numbers block.family.set block.number block.on_board block.within block.numbers)
 
@@ -75,7 +74,6 @@ place_of_far family block run number place ob at b ob_is found =
     }
 
 -- ---- the representative of a class in its run
-
 pub left_in_run : (family : Family) (block run before class : ℕ) → before ≡ classes_to_run family block run → classes_to_run family block run ≤ class
     → class < classes_to_run family block (run + 1) → classes_to_run family block run + (class - before) < classes_to_run family block (run + 1)
 left_in_run family block run before class is low high = omega (arith, is, low, high)
@@ -167,7 +165,6 @@ pub AreBlocks-none : (family : Family) (blocks : List BlockClasses) → blocks �
 AreBlocks-none family blocks none = λ k other below. (let empty = ap length none in absurd (omega (arith, below, empty)))
 
 -- ---- the classes of all blocks
-
 pub classes_all : (family : Family) (number count : ℕ) → number ≡ product (block_bases family.set) → count ≡ classes_to_block family number
     → count ≡ classes_of family
 unfolding classes_of size_of_set
@@ -191,7 +188,6 @@ pub classes_few : (family : Family) (block : ℕ) → block ≤ product (block_b
 classes_few family block upto = grind (arith, start_small, marks_below-le)
 
 -- ---- the position at a spot of the block that is read
-
 pub record IsSpotOf (family : Family) (block : BlockClasses) (run local : ℕ) : Type 0 where
   pub on_board_has : HasDigits (block_bases family.set) block.on_board
   pub run_below : run < product (run_bases family.set block.on_board)

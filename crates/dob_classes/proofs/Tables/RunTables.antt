@@ -74,7 +74,6 @@ HasTable-again family block run runs tables entry are later read kind =
     rw (lions_run run) at (is.table_is (ap run_kind (lions_run run) ∙ kind))
 
 -- ---- the entries of runs
-
 abbrev pub make_run : ℕ → ℕ → RunKind → RunDigits → Run
 make_run before table kind digits = record { before = before; table = table; kind = kind; digits = digits }
 
@@ -93,7 +92,6 @@ pub AreRuns-none : (family : Family) (block : ℕ) (runs : List Run) (tables : L
 AreRuns-none family block runs tables none = record { long = ap length none; each = λ run other below. absurd (omega arith) }
 
 -- ---- bounds
-
 pub marks_small : (family : Family) (block run : ℕ) → block < product (block_bases family.set) → run ≤ runs_in family.set block
     → classes_to_run family block run ≤ 2 ^ 42
 marks_small family block run within upto =
@@ -113,7 +111,6 @@ pub classes_before-small : (family : Family) (block run number : ℕ) → IsInRu
 classes_before-small family block run number at = grind (arith, marks_below-upto, classes_before_next, marks_small)
 
 -- ---- what the tables say of a position of a run
-
 pub record IsThere (family : Family) (block run number : ℕ) (tables : List StretchTable) (entry : Run) : Type 0 where
   pub in_run : IsInRunOf family block run number
   pub entry_is : IsRun family block run tables entry

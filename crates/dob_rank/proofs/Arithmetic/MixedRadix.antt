@@ -55,7 +55,6 @@ digits_of-number_of (b ∷ bs) (d ∷ ds) h =
 digits_of-number_of bs ds h = absurd h
 
 -- ---- in two parts
-
 pub product-append : (bs cs : List ℕ) → product (bs ++ cs) ≡ product bs * product cs
 product-append [] cs = omega arith
 product-append (b ∷ bs) cs = ap (λ n. b * n) (product-append bs cs) ∙ sym (mul_assoc b (product bs) (product cs))

@@ -82,7 +82,6 @@ masks_by setup board own enemy chicks elephants giraffes twelve are o e c l g =
     }
 
 -- ---- the cells on the first and the second square of a layer are of it
-
 first_layer : (t : ℕ) (cells : List Cell) → 0 < count t (map layer cells) → layer (get_or cells (first_square t (map layer cells)) None) ≡ t
 first_layer t [] h = absurd (omega arith)
 first_layer t (cell ∷ cells) h = grind (arith, count_other, (first_layer t cells))
@@ -113,7 +112,6 @@ second_of_layer t cells mask less long is less_is two =
     ap (λ (k : ℕ). layer (get_or cells k None)) (second_found t cells mask less long is less_is two) ∙ second_layer t cells two
 
 -- ---- the form of a cell of a known layer
-
 chick_form : (cell : Cell) → layer cell ≡ order Chicks → 2 * one_if (is_enemy cell) + one_if (is_hen cell) ≡ form cell
 chick_form = grind arith
 

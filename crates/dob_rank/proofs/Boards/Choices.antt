@@ -3,7 +3,6 @@ use Rattle.dob_rank.proofs.Common.{◌+◌, ◌<◌, ◌∙◌, ◌∷◌, ◌�
 use Rattle.dob_rank.proofs.Common.{count, count_from, with_first, Precedes, squares_from, nat_tests}
 
 -- ---- one more cell in front
-
 pub count_same : (t : ℕ) (ls : List ℕ) → count t (t ∷ ls) ≡ suc (count t ls)
 count_same t ls = rw (eq-eqb t t refl) (omega arith)
 
@@ -31,7 +30,6 @@ pub with_first-suc : (squares pieces more : ℕ) → more ≡ suc pieces → wit
 with_first-suc squares pieces more e = grind arith
 
 -- ---- the bound
-
 pub choice-below : (t : ℕ) (ls : List ℕ) → choice t ls < choose (count_from t ls) (count t ls)
 choice-below t [] = omega arith
 choice-below t (l ∷ ls) =
@@ -39,7 +37,6 @@ choice-below t (l ∷ ls) =
     grind (arith, nat_tests, choice-below t ls, more, with_first-suc (count_from t ls) (count t ls) (count t (l ∷ ls)))
 
 -- ---- the squares of a layer
-
 abbrev pub layer_squares : ℕ → ℕ → List ℕ → List ℕ
 layer_squares t from ls = squares_from from (λ (l : ℕ). eqb l t) ls
 

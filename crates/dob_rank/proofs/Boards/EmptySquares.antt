@@ -31,7 +31,6 @@ empty_place-set t zero n (l ∷ ls) h = grind (arith, nat_tests, empty_place-set
 empty_place-set t (suc a) n (l ∷ ls) h = grind (arith, nat_tests, empty_place-set t (suc a) n ls h, empty_place-set t a (n - 1) ls h, kept l ls)
 
 -- ---- settled layers are written
-
 pub settle_none : (t n : ℕ) (ls : List ℕ) → settle t 0 n ls ≡ ls
 settle_none t n [] = refl
 settle_none t n (l ∷ ls) = grind (arith, nat_tests, settle_none t n ls, settle_none t (n - 0) ls)

@@ -8,7 +8,6 @@ use Rattle.dob_rank.proofs.Boards.Settled.{AreLayers}
 use Rattle.dob_rank.proofs.Boards.EachCell.{of_cell}
 
 -- ---- the pieces of a layer and their forms
-
 pub form-below : (cell : Cell) → form cell < base_of (layer cell)
 form-below = of_cell (λ c. form c < base_of (layer c)) (omega arith) (search arith) (search arith)
 
@@ -48,7 +47,6 @@ power_positive b zero h = omega (arith, pow-zero b)
 power_positive b (suc k) h = subst (λ (x : ℕ). 0 < x) (sym (pow-succ' b k)) (omega (arith, digit_below 0 b (b ^ k) 0 h (power_positive b k h)))
 
 -- ---- one more cell in front
-
 pub forms_number_same : (t : ℕ) (cell : Cell) (cells : List Cell) → layer cell ≡ t
     → forms_number t (cell ∷ cells) ≡ form cell * base_of t ^ count t (map layer cells) + forms_number t cells
 forms_number_same t cell cells h = rw (eq-eqb (layer cell) t h) refl

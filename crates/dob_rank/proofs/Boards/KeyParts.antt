@@ -7,7 +7,6 @@ use Rattle.dob_rank.proofs.Boards.Choices.{Alike, layer_squares, count_other, co
 use Rattle.dob_rank.proofs.Boards.FormDigits.{form-below, forms_number_same, forms_number_other}
 
 -- ---- squares
-
 pub length-layer_squares : (t from : ℕ) (ls : List ℕ) → length (layer_squares t from ls) ≡ count t ls
 length-layer_squares t from [] = refl
 length-layer_squares t from (l ∷ ls) = grind (arith, nat_tests, length-layer_squares t (suc from) ls)

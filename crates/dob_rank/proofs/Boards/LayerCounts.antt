@@ -10,7 +10,6 @@ use Rattle.dob_rank.proofs.Boards.Choices.{count_from_later, layer_squares, coun
 use Rattle.dob_rank.proofs.Boards.Settled.{AreShown, AreLayers, IsSettled, settle-settles}
 
 -- ---- counts of one layer and of all from a layer on
-
 pub count_from-next : (t : ℕ) (ls : List ℕ) → count_from (suc t) ls + count t ls ≡ count_from t ls
 count_from-next t [] = omega arith
 count_from-next t (l ∷ ls) = grind (arith, nat_tests, count_from-next t ls)
@@ -33,7 +32,6 @@ length-settle t pieces number [] = refl
 length-settle t pieces number (l ∷ ls) = grind (arith, nat_tests, λ (p n : ℕ). length-settle t p n ls)
 
 -- ---- a layer of one cell
-
 pub choice_none : (t : ℕ) (ls : List ℕ) → count t ls ≡ 0 → choice t ls ≡ 0
 choice_none t [] h = refl
 choice_none t (l ∷ ls) h = grind (arith, nat_tests, choice_none t ls)
@@ -59,7 +57,6 @@ lion_only (suc l ∷ ls) zero h e = grind arith
 lion_only (suc l ∷ ls) (suc k) h e = grind (arith, nat_tests, lion_only ls k)
 
 -- ---- layers and the tests of the key
-
 pub holds_mover_lion : (cell : Cell) → holds_lion Mover cell ≡ eqb (layer cell) (order OwnLion)
 holds_mover_lion = of_cell _ refl (refl, refl, refl, refl, refl) (refl, refl, refl, refl, refl)
 

@@ -12,7 +12,6 @@ use Rattle.dob_rank.proofs.Boards.EmptySquares.{choose_one, one_way}
 use Rattle.dob_rank.proofs.Positions.BlockStarts.{same_number, second}
 
 -- ---- one more square in front
-
 mask_at : (t l : ℕ) (ls : List ℕ) → l ≡ t → layer_mask t (l ∷ ls) ≡ layer_mask t ls * 2 + 1
 mask_at t l ls e = rw (eq-eqb l t e) (omega arith)
 
@@ -28,7 +27,6 @@ from_later t l ls h = rw (le-ltb l t h) (omega arith)
 ruleset steps = (mask_at, mask_other, from_lower, from_later)
 
 -- ---- counts
-
 ones-zero : ones 0 ≡ 0
 unfolding ones
 ones-zero = refl
@@ -120,7 +118,6 @@ second_bits t (l ∷ ls) h =
     grind (arith, nat_tests, steps, rest_same, rest_other, first_bits t ls, ones_below, ones_below_one, mask_some t ls, rest_some t ls, second_bits t ls)
 
 -- ---- the number of the choice
-
 pub choice_one : (t : ℕ) (ls : List ℕ) → count t ls ≡ 1 → choice t ls ≡ before_first t ls
 choice_one t [] h = absurd (omega arith)
 choice_one t (l ∷ ls) h = grind (arith, nat_tests, choice_none t ls, choice_one t ls, one_way (count_from t ls))
@@ -173,7 +170,6 @@ two_choice t ls mask later below first rest second_number free factor few m f b 
     rw (g, n, s, r, b, m, o, f, ones-from_mask (suc t) ls, first_bits t ls (omega arith), second_bits t ls two) (sym (choice_two t ls few two))
 
 -- ---- what is left of all squares
-
 from-next : (t : ℕ) (ls : List ℕ) → from_mask (suc t) ls + layer_mask t ls ≡ from_mask t ls
 from-next t [] = refl
 from-next t (l ∷ ls) = grind (arith, nat_tests, from-next t ls)
@@ -194,7 +190,6 @@ pub later_are : (ls : List ℕ) → length ls ≡ 12 → AreLater ls
 later_are ls h = grind (arith, from-all, from-next)
 
 -- ---- the squares of a layer's pieces, and their forms
-
 abbrev pub first_square : ℕ → List ℕ → ℕ
 first_square t [] = 0
 first_square t (l ∷ ls) = cond (nat_eq l t) 0 (suc (first_square t ls))

@@ -37,7 +37,6 @@ board_of-set numbers t zero (l ∷ ls) h o = grind (arith, count_other)
 board_of-set numbers t (suc s) (l ∷ ls) h o = grind (arith, count_other, count-set_other, (board_of-set numbers t s ls h o.1))
 
 -- ---- the squares that choices take are open
-
 open_one : (t n : ℕ) (ls : List ℕ) → (order Empty ≡ t → ⊥) → count t ls ≡ 0 → n < count (order Empty) ls → IsOpen (empty_place ls n) t ls
 open_one t n [] h z k = absurd (omega arith)
 open_one t zero (l ∷ ls) h z k = grind (arith, nat_tests, open_one t 0 ls h)
@@ -170,7 +169,6 @@ second_below numbers t (suc (suc zero)) n m ls cells f few low s some = place_be
 second_below numbers t p n m ls cells f few low s some = absurd (omega arith)
 
 -- ---- the squares of a choice are empty, and two
-
 none_at : (numbers : ℕ → ℕ) (t s : ℕ) (ls : List ℕ) → IsOpen s t ls → slice_index_or (board_of numbers ls) s None ≡ None
 none_at numbers t s [] o = refl
 none_at numbers t zero (l ∷ ls) o = subst (λ (x : ℕ). cell_of x (numbers x / base_of x ^ count x ls % base_of x) ≡ None) (sym o) refl
@@ -219,7 +217,6 @@ are_free numbers t (suc (suc zero)) n m ls cells f h few low s =
 are_free numbers t (suc (suc (suc p))) n m ls cells f h few low s = absurd (omega arith)
 
 -- ---- the empty board
-
 empty_board : (numbers : ℕ → ℕ) (n : ℕ) → replicate n None ≡ board_of numbers (replicate n (order Empty))
 empty_board numbers zero = refl
 empty_board numbers (suc n) = ap (λ (cs : List Cell). None ∷ cs) (empty_board numbers n)

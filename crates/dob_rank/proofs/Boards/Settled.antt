@@ -91,7 +91,6 @@ settle-settles t pieces number (l ∷ ls) h a n = elim a.0 [
 ]
 
 -- ---- what earlier and later layers say of one another
-
 pub hide-hide : (s t : ℕ) (ls : List ℕ) → s ≤ t → t ≤ order Empty → hide s (hide t ls) ≡ hide s ls
 hide-hide s t [] h k = refl
 hide-hide s t (l ∷ ls) h k = grind (arith, nat_tests, hide-hide s t ls h k)

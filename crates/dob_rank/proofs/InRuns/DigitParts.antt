@@ -40,7 +40,6 @@ parts_are set ob run local forms h l f =
     })
 
 -- ---- the forms' bases are powers of 2
-
 abbrev shifted : ℕ → ℕ → ℕ → Bool
 shifted i j k = nat_eq (1 * 2 ^ (2 * i + j + k) % 2 ^ 64) (4 ^ i * (2 ^ j * (2 ^ k * 1)))
 
@@ -187,7 +186,6 @@ forms_joined ob fs elephants long few has e =
     grind (arith, by, most, digit 0, digit 1, digit 2, four_small, two_small)
 
 -- ---- the spot of a place
-
 pub record IsSplit (set : PieceSet) (ob : List ℕ) (place size : ℕ) : Type 0 where
   pub some : 0 < size
   pub run_low : place / size < product (run_bases set ob)
@@ -239,7 +237,6 @@ run_parts set ob bases hands run found below is =
     })
 
 -- ---- the digits of a spot
-
 eleven_same : (a b c d e f g h i j k a' b' c' d' e' : ℕ) → a ≡ a' → b ≡ b' → c ≡ c' → d ≡ d' → e ≡ e' →
     a ∷ b ∷ c ∷ d ∷ e ∷ f ∷ g ∷ h ∷ i ∷ j ∷ k ∷ [] ≡ a' ∷ b' ∷ c' ∷ d' ∷ e' ∷ f ∷ g ∷ h ∷ i ∷ j ∷ k ∷ []
 eleven_same a b c d e f g h i j k a' b' c' d' e' p q r s t = cc

@@ -11,7 +11,6 @@ use Rattle.dob_rank.proofs.Boards.FormDigits.{AreLayers-map}
 use Rattle.dob_rank.proofs.Positions.Digits.{HasParts-from_position, HasDigits-digits, lions_back}
 
 -- ---- layers of the mirror image
-
 abbrev pub mirror_layers : List ℕ → List ℕ
 mirror_layers ls = map (λ k. slice_index_or ls (mirrored_square k) (order Empty)) (range_with_len 0 12)
 

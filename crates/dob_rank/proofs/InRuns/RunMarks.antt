@@ -6,7 +6,6 @@ use Rattle.dob_rank.proofs.Marked.Words.{marks_below_more, marks_below_none, no_
 use Rattle.dob_rank.proofs.InRuns.RunPlaces.{block_size-runs, run_start-is}
 
 -- ---- places of runs
-
 pub run_start_first : (set : PieceSet) (block : ℕ) → run_start set block 0 ≡ start_of set block
 run_start_first set block = run_start-is set block 0 ∙ (let e : start_of set block + 0 * run_size set block ≡ start_of set block = omega arith in e)
 
@@ -21,7 +20,6 @@ pub run_start_end : (set : PieceSet) (block : ℕ) → run_start set block (runs
 run_start_end set block = run_start-is set block (runs_in set block) ∙ ap (λ n. start_of set block + n) (sym (block_size-runs set block))
 
 -- ---- bounds
-
 sums_small : (set : PieceSet) (block : ℕ) → block ≤ product (block_bases set) → sum_below (block_size set) block ≤ block * 2 ^ 36
 sums_small set zero upto = omega arith
 sums_small set (suc block) upto =
@@ -36,7 +34,6 @@ start_small set block upto =
     omega (arith, sum, few)
 
 -- ---- the marks of a mixed run, by its table
-
 pub marks_agree : (f g : ℕ → Bool) (n : ℕ) → ((k : ℕ) → k < n → f k ≡ g k) → marks_below f n ≡ marks_below g n
 marks_agree f g zero same = marks_below_none f ∙ sym (marks_below_none g)
 marks_agree f g (suc n) same =

@@ -19,7 +19,6 @@ use Rattle.dob_rank.proofs.InRuns.Lions.{mirror_layers, layers-mirrored, image_l
 use Rattle.dob_rank.proofs.Positions.Loops.{product-positive}
 
 -- ---- a position's run, and its place there
-
 abbrev pub hand_digits : Setup → List ℕ
 hand_digits s = s.hands.mover.chicks ∷ s.hands.mover.elephants ∷ s.hands.mover.giraffes ∷ []
 
@@ -52,7 +51,6 @@ local_of-below set s p =
     number_of-below (local_bases (on_board s)) (local_digits s) (HasDigits-digits set s (HasParts-from_position set s p)).1.1.1.1.1
 
 -- ---- the mirror image
-
 count-mirror : (t : ℕ) (ls : List ℕ) → length ls ≡ 12 → count t (mirror_layers ls) ≡ count t ls
 count-mirror t (a ∷ b ∷ c ∷ d ∷ e ∷ i ∷ j ∷ k ∷ l ∷ m ∷ n ∷ o ∷ []) eq = omega arith
 count-mirror t ls eq = absurd (omega arith)
@@ -218,7 +216,6 @@ marked_later set block run local h kind =
     (later_by_place set s p (omega (arith, place-parts set s (local_size s) (lions_of s) refl refl, image-parts set s p, apart)))
 
 -- ---- how many runs, and of which size
-
 pub positive_locals : (set : PieceSet) (ob : List ℕ) → All (λ (n : ℕ). 0 < n) (bases_by set ob) → All (λ (n : ℕ). 0 < n) (local_bases ob)
 positive_locals set ob all k other below = all (suc (suc (suc (suc (suc k))))) other (omega arith)
 
@@ -256,7 +253,6 @@ run_size-small set block within =
     )
 
 -- ---- the mark of a place
-
 mark_of_place : (set : PieceSet) (block place : ℕ) (s : Setup) (on : Bool) → HasBlock set block place s → is_first set (rank_of_set set s) ≡ on →
     marked set (sum_below (block_size set) block + place) ≡ on
 mark_of_place set block place s on there is = grind (arith, rank_of_set-block, marked-first_of, rank_of_set-below)

@@ -13,7 +13,6 @@ unfolding runs_in
 runs_by_hand set block = product-append (hand_bases set (digits_of (block_bases set) block)) (own_squares ∷ enemy_squares ∷ [])
 
 -- ---- the first runs
-
 pub lions_same : (lions : ℕ) → lions < lion_pairs → lions % lion_pairs ≡ lions
 lions_same lions low = omega arith
 

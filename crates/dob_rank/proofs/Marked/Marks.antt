@@ -78,7 +78,6 @@ HasCount-marked P size nth index mark h (suc n) le =
     ]
 
 -- ---- first setups
-
 pub numbering : (set : PieceSet) → IsNumbering (IsPositionOfSet set) (size_of_set set) (nth set) (rank_of_set set)
 numbering set = record {
   sound = λ i h. (nth-block set i h).position;

@@ -11,7 +11,6 @@ unfolding marks_below
 marks_below_more mark n = refl
 
 -- ---- marks below a place
-
 pub marks_below-le : (mark : ℕ → Bool) (n : ℕ) → marks_below mark n ≤ n
 unfolding marks_below
 marks_below-le mark zero = omega arith

@@ -157,7 +157,6 @@ own_place family s p =
     }
 
 -- ---- its rank
-
 gathered : (start x s n q w d r f : ℕ) → start + x * (n * r) + ((s * n + q * w + d) * r + f) ≡ start + (((x + s) * n + (q * w + d)) * r + f)
 gathered start x s n q w d r f = simp (add-mul, mul_assoc) (omega arith)
 

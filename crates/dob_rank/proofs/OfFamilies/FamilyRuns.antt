@@ -13,7 +13,6 @@ use Rattle.dob_rank.proofs.ProfileB.LionBoards.{chicks_settled}
 use Rattle.dob_rank.proofs.OfFamilies.RunCounts.{IsSpotIn, all_forms, present_before}
 
 -- ---- sums of products
-
 pub factor_out : (w : ℕ → ℕ) (n r c : ℕ) → sum_below (λ d. n * (w d * r)) c ≡ sum_below w c * (n * r)
 factor_out w n r c =
     sum_same (λ d. n * (w d * r)) (λ d. n * r * w d) c (λ d low. rw (mul_comm (w d) r) (sym (mul_assoc n r (w d))))
@@ -70,7 +69,6 @@ to_the_end family block run c n r spot =
     joined a x = (let more = once_more n x in omega (arith, more))
 
 -- ---- the positions of a run
-
 one_less : (n : ℕ) → 0 < n → (k : ℕ) × (n ≡ suc k)
 one_less zero some = absurd (omega arith)
 one_less (suc n) some = (n, refl)
@@ -130,7 +128,6 @@ run_present family block run within below =
         (sym is)
 
 -- ---- the runs of a block
-
 pub runs_present : (family : Family) (block run : ℕ) → block < product (block_bases family.set) → run ≤ runs_in family.set block
     → marks_below (is_present family) (start_of family.set block)
     + sum_below (forms_in family.profile (slice_index (ob_of family block) 0)) run * (others_squares (ob_of family block) * others_forms (ob_of family block))

@@ -67,7 +67,6 @@ HasClass-marked family s p =
     (λ q h. (h.0.0.of_set, marked family q h.0, rank_of_set-rises family.set q s h.0.0.of_set p.of_set h.1))
 
 -- ---- in profile A every setup of the set is there
-
 pub there : (family : Family) (n : ℕ) → family.profile ≡ A → is_present family n ≡ true
 unfolding is_present
 there family n a = ap (λ (p : Profile). is_allowed p (nth family.set n)) a
@@ -100,7 +99,6 @@ in_whole_block set block place rank is below =
     record { below = omega (arith, start, end, is, below); whole = omega (arith, start, is) }
 
 -- ---- those before the end of the last block are all
-
 pub size_of-end : (family : Family) (blocks number : ℕ) → blocks ≡ product (block_bases family.set)
     → number ≡ marks_below (is_present family) (start_of family.set blocks) → number ≡ size_of family
 unfolding size_of size_of_set

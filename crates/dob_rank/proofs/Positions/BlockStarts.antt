@@ -7,7 +7,6 @@ use Rattle.dob_rank.specs.declared.starts.TheConstants.{FIRST, STARTS}
 use Rattle.dob_rank.proofs.Positions.Blocks.{block_size-product}
 
 -- ---- each set by its numbers, and each of its blocks with the end
-
 abbrev pub bases_of : ℕ → ℕ → ℕ → List ℕ
 bases_of c e g = (c + 1) ∷ (e + 1) ∷ (g + 1) ∷ []
 
@@ -29,7 +28,6 @@ at_block f all set block upto =
     all_below-at (f set.chicks set.elephants set.giraffes) (product (block_bases set) + 1) block here (omega (arith, upto))
 
 -- ---- the table's entries
-
 abbrev place_in : ℕ → ℕ → ℕ → ℕ → ℕ
 place_in c e g block = slice_index_or FIRST (9 * c + 3 * e + g) 0 + block
 
@@ -55,7 +53,6 @@ entry_is profile size all set block upto =
     same_number (start_at profile set block) (sum_below (size set.chicks set.elephants set.giraffes) block) (at_block (agrees profile size) all set block upto)
 
 -- ---- where the entries stand
-
 abbrev is_within : ℕ → ℕ → ℕ → ℕ → Bool
 is_within c e g block = nat_lt (place_in c e g block) 243
 
@@ -67,7 +64,6 @@ pub place_within : (set : PieceSet) (block : ℕ) → block ≤ product (block_b
 place_within set block upto = ltb-true (place_in set.chicks set.elephants set.giraffes block) 243 (at_block is_within all_within set block upto)
 
 -- ---- in profile A
-
 abbrev bases_in : ℕ → ℕ → ℕ → List ℕ → List ℕ
 bases_in c e g ob =
     let i = slice_index ob 0 in
@@ -89,7 +85,6 @@ start_is set block upto =
     ∙ sym (sum_same (block_size set) (size_by set.chicks set.elephants set.giraffes) block (λ n low. block_size-product set n))
 
 -- ---- how large they are
-
 abbrev few_in : ℕ → ℕ → ℕ → ℕ → Bool
 few_in c e g block = nat_lt (start_in 0 c e g block) (2 ^ 31)
 

@@ -30,7 +30,6 @@ append_at_most (b ∷ bs) (c ∷ cs) ds es h k = (h.0, append_at_most bs cs ds e
 append_at_most bs cs ds es h k = absurd h
 
 -- ---- choices of at most two squares
-
 pub choose-grows : (m n k : ℕ) → m ≤ n → choose m k ≤ choose n k
 choose-grows m zero k h = grind arith
 choose-grows m (suc n) k h = grind (arith, choose-grows m n k, choose-split n k)
@@ -52,7 +51,6 @@ pub choose-positive : (m k : ℕ) → 2 ≤ m → k ≤ 2 → 0 < choose m k
 choose-positive m k h l = (let a : choose 2 k ≤ choose m k = choose-grows 2 m k h in let b : 0 < choose 2 k = choose_two_of_two k l in omega arith)
 
 -- ---- powers
-
 pub four_small : (k : ℕ) → k ≤ 2 → 4 ^ k ≤ 16
 four_small k h = leb-true (4 ^ k) 16 (all_below-at (λ k. leb (4 ^ k) 16) 3 k refl (omega arith))
 
@@ -60,7 +58,6 @@ pub two_small : (k : ℕ) → k ≤ 2 → 2 ^ k ≤ 4
 two_small k h = leb-true (2 ^ k) 4 (all_below-at (λ k. leb (2 ^ k) 4) 3 k refl (omega arith))
 
 -- ---- the bases of a block
-
 le_by : (m d : ℕ) → m ≤ m + d
 le_by m d = omega arith
 
@@ -144,7 +141,6 @@ bases_small set ob few =
     omega (arith, product-at_most (bases_by set ob) (most_hands ++ (own_squares ∷ enemy_squares ∷ (most_squares ++ most_forms))) all)
 
 -- ---- the number of blocks
-
 pub blocks_small : (set : PieceSet) → product (block_bases set) ≤ 27
 blocks_small set = product-at_most (block_bases set) (3 ∷ 3 ∷ 3 ∷ []) (grind (arith, one_more))
 
@@ -157,7 +153,6 @@ block_size-small set block h =
     (bases_small set (digits_of (block_bases set) block) (AreFewOnBoard-digits set (digits_of (block_bases set) block) (few_in_block set block h)))
 
 -- ---- sums of blocks
-
 pub sum_below_more : (f : ℕ → ℕ) (n : ℕ) → sum_below f (n + 1) ≡ sum_below f n + f n
 sum_below_more f n = ap (sum_below f) (let e : n + 1 ≡ suc n = omega arith in e)
 

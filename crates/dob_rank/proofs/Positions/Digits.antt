@@ -98,7 +98,6 @@ HasDigits-digits set s h =
     )
 
 -- ---- back
-
 pub hide_zero : (ls : List ℕ) → hide (order OwnLion) ls ≡ replicate (length ls) (order Empty)
 hide_zero [] = refl
 hide_zero (l ∷ ls) = grind (arith, hidden_later, (hide_zero ls))

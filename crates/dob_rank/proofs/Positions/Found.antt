@@ -12,7 +12,6 @@ pub HasDigits-same : (bs cs ds es : List ℕ) → bs ≡ cs → ds ≡ es → Ha
 HasDigits-same bs cs ds es p q h = subst (λ (xs : List ℕ). HasDigits xs ds) (sym p) (subst (HasDigits cs) (sym q) h)
 
 -- ---- the rank of a position
-
 pub HasDigits-board : (set : PieceSet) (s : Setup) (nums : List ℕ) → IsPositionOfSet set s → nums ≡ on_board s → HasDigits (block_bases set) nums
 HasDigits-board set s nums p e
     = HasDigits-same (block_bases set) (block_bases set) nums (on_board s) refl e (HasDigits-on_board set s (HasParts-from_position set s p))
@@ -73,7 +72,6 @@ pub ranked : (set : PieceSet) (s : Setup) (block place start : ℕ) → block �
 ranked set s block place start block_is place_is g = rw (g, block_is, place_is) (sym (rank_of_set-place set s))
 
 -- ---- the position of a rank
-
 pub place_in : (set : PieceSet) (block place : ℕ) (nums : List ℕ) → place < block_size set block
     → nums ≡ digits_of (block_bases set) block → place < product (bases_by set nums)
 place_in set block place nums h e = grind (arith, block_size-product set block)

@@ -5,12 +5,10 @@ use Rattle.dob_rank.proofs.Arithmetic.MixedRadix.{digit_below}
 use Rattle.dob_rank.proofs.Boards.EmptySquares.{choose_one}
 
 -- ---- the rest of a list, one element further back
-
 pub drop_back : {X : Type 0} (xs : List X) (i : ℕ) (d : X) → 0 < i → i ≤ length xs → drop (i - 1) xs ≡ get_or xs (i - 1) d ∷ drop i xs
 drop_back xs i d h k = drop_more xs (i - 1) d (omega arith) ∙ ap (λ (n : ℕ). get_or xs (i - 1) d ∷ drop n xs) (let e : i - 1 + 1 ≡ i = omega arith in e)
 
 -- ---- products
-
 pub product-positive : (bs : List ℕ) → All (λ (b : ℕ). 0 < b) bs → 0 < product bs
 product-positive [] h = omega arith
 product-positive (b ∷ bs) h =
@@ -38,7 +36,6 @@ product_fits bs i w limit h low p q e =
     omega (arith, product-drop bs (i - 1) h)
 
 -- ---- numbers
-
 pub HasDigits-length : (bs ds : List ℕ) → HasDigits bs ds → length ds ≡ length bs
 HasDigits-length [] [] h = refl
 HasDigits-length (b ∷ bs) (x ∷ ds) h = ap suc (HasDigits-length bs ds h.1)
@@ -57,7 +54,6 @@ digit-at (b ∷ bs) (x ∷ ds) zero h l = h.0
 digit-at (b ∷ bs) (x ∷ ds) (suc k) h l = digit-at bs ds k h.1 (omega arith)
 
 -- ---- small choices
-
 pub choose_two_twice : (m : ℕ) → 2 * choose m 2 + m ≡ m * m
 choose_two_twice zero = omega arith
 choose_two_twice (suc m) = (let rest : 2 * choose m 2 + m ≡ m * m = choose_two_twice m in let one : choose m 1 ≡ m = choose_one m in omega arith)

@@ -65,7 +65,6 @@ chosen ob ds ls start c =
     from_stages ob ds ls _ _ _ _ _ one.settled two.settled three.settled four.settled five.settled five.stage.long
 
 -- ---- a setup with such layers
-
 record IsMade (set : PieceSet) (ob ds : List ℕ) (s : Setup) : Type 0 where
   choices : AreChoices ob ds
   layers : AreChosen ob ds (map layer s.board)
@@ -108,7 +107,6 @@ position_made set ob ds s m = record {
 }
 
 -- ---- the setup of digits
-
 rejoined : (c i h : ℕ) → i < c + 1 → h < c - i + 1 → i + h + (c - i - h) ≡ c
 rejoined c i h a b = omega arith
 

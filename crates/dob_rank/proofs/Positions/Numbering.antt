@@ -12,7 +12,6 @@ use Rattle.dob_rank.proofs.Positions.Keys.{key-upto}
 use Rattle.dob_rank.proofs.Arithmetic.Order.{Upto, Upto-from, Precedes-irreflexive, Precedes-or}
 
 -- ---- a rank is the start of its block and the place there
-
 pub rank_of_set-place : (set : PieceSet) (s : Setup) → rank_of_set set s ≡ sum_below (block_size set) (block_of set s) + place_of set s
 unfolding rank_of_set
 rank_of_set-place set s = refl
@@ -46,7 +45,6 @@ setup_in-back set s p =
     ∙ setup_by-back set s h
 
 -- ---- a place below its block's size
-
 pub record IsPlace (set : PieceSet) (block place : ℕ) : Type 0 where
   pub block_below : block < product (block_bases set)
   pub place_below : place < block_size set block
@@ -129,7 +127,6 @@ unfolding Before
 Before-from_rank set p q hp hq lt = elim (Precedes-or (key p) (key q)) [ inl h ↦ h | inr u ↦ absurd (omega (arith, lt, rank_of_set-upto set q p hq hp u)) ]
 
 -- ---- the numbering
-
 record IsFound (f : ℕ → ℕ) (blocks n : ℕ) (at : ℕ × ℕ) : Type 0 where
   block_below : at.0 < blocks
   place_below : at.1 < f at.0

@@ -54,7 +54,6 @@ few_in_layer s t legal below = by_layer t below
     )
 
 -- ---- the pieces of a position give its set
-
 abbrev set_with : (c e g : ℕ) → c ≤ 2 → e ≤ 2 → g ≤ 2 → PieceSet
 set_with c e g few_c few_e few_g = record { chicks = c; elephants = e; giraffes = g; few_chicks = few_c; few_elephants = few_e; few_giraffes = few_g }
 

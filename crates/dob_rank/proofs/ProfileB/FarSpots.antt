@@ -18,7 +18,6 @@ use Rattle.dob_rank.proofs.OfFamilies.FamilyRuns.{others_forms-some, spot_in_run
 use Rattle.dob_rank.proofs.OfFamilies.FamilyRanks.{present_at}
 
 -- ---- what the searches keep
-
 pub hand_size_is : (chicks : ℕ) → hand_size B chicks ≡ lions_before B chicks lion_pairs
 unfolding hand_size
 hand_size_is chicks = refl
@@ -36,7 +35,6 @@ pub none_counted : (mark : ℕ → Bool) (n before : ℕ) → before ≡ marks_b
 none_counted mark n before is off = grind (arith, marks_next)
 
 -- ---- the forms of a choice
-
 four_some : 0 < 4
 four_some = omega arith
 
@@ -195,7 +193,6 @@ parts_are chicks lions n number c sum weight forms first second below at sum_is 
     }
 
 -- ---- and of a place in a run
-
 pub forms_out : (number sum n r : ℕ) → 0 < r → number < sum * (n * r) → number / r < sum * n
 forms_out number sum n r some low = div_below number r (sum * n) some (subst (λ (x : ℕ). number < x) (sym (mul_assoc sum n r)) low)
 

@@ -17,7 +17,6 @@ use Rattle.dob_rank.proofs.OfFamilies.Present.{all_present}
 use Rattle.dob_rank.proofs.OfFamilies.FamilyRuns.{present_size, blocks_present}
 
 -- ---- the weights of the squares that two lions leave
-
 abbrev pub shape_of : ℕ → ℕ
 shape_of lions = slice_index_or SHAPE lions 0
 
@@ -79,7 +78,6 @@ row_sum row more most n (suc k) all upto =
     grind (arith, nat_tests, all_below-at (is_step row more (most + 1)) n k steps (omega (arith, upto)), row_sum row more most n k all)
 
 -- ---- the sums before a choice
-
 abbrev pub entry : ℕ → ℕ → ℕ → ℕ
 entry chicks shape c = slice_index_or (slice_index_or (slice_index_or BEFORE chicks []) shape []) c 0
 
@@ -106,7 +104,6 @@ before_choice lions chicks c few below upto =
     (row_sum (entry chicks (shape_of lions)) (chosen_by chicks (shape_of lions)) 582 (choose free_squares chicks) c row upto)
 
 -- ---- the sums before two lions
-
 abbrev pub lions_entry : ℕ → ℕ → ℕ
 lions_entry chicks lions = slice_index_or (slice_index_or LIONS_BEFORE chicks []) lions 0
 
@@ -138,7 +135,6 @@ hand_size-some (suc (suc (suc n))) few = absurd (omega (arith, few))
 hand_size-some chicks few = subst (λ (n : ℕ). 0 < n) (hand_size_is chicks few).value_is (omega arith)
 
 -- ---- the forms on a square
-
 abbrev pub form_entry : ℕ → ℕ → ℕ
 form_entry square form = slice_index_or (slice_index_or FORMS_BELOW square []) form 0
 
@@ -190,7 +186,6 @@ far_start_is set block upto =
     ∙ sym (blocks_present (family_of set B) block upto)
 
 -- ---- in either profile
-
 pub start_in_family : (profile : Profile) (set : PieceSet) (place block : ℕ) → (profile ≡ A → place ≡ 0) → (profile ≡ B → place ≡ 1)
     → block ≤ product (block_bases set) → start_at place set block ≡ marks_below (is_present (family_of set profile)) (start_of set block)
 start_in_family A set place block first second upto =

@@ -115,7 +115,6 @@ spot_for ob lions number others hand before local run few others_is some hand_is
     (subst (λ (xs : List ℕ). IsPlaceFor xs lions (number - (number / others / hand * hand + before) * others) local) ob_is place) low)
 
 -- ---- the position there
-
 pub far_ranked : (set : PieceSet) (block number rank run local : ℕ) (ob : List ℕ) (s : Setup) → block < product (block_bases set)
     → ob ≡ digits_of (block_bases set) block → IsPresentIn (family_of set B) block number run local
     → marks_below (is_present (family_of set B)) (start_of set block) + number ≡ rank
@@ -132,7 +131,6 @@ far_ranked set block number rank run local ob s within ob_is at is made =
     rw (back, at.before ∙ is) at (ranked_at (family_of set B) (run_start set block run + local) below at.present)
 
 -- ---- the two profiles
-
 pub below_in_A : (family : Family) (rank : ℕ) → family.profile ≡ A → rank < size_of family → rank < size_of_set family.set
 below_in_A family rank a low = subst (λ (n : ℕ). rank < n) (size_of-whole family a) low
 
@@ -153,7 +151,6 @@ pub ranked_in_B : (family : Family) (rank : ℕ) (s : Setup) → family.profile 
 ranked_in_B family rank s b at = subst (λ (f : Family). IsRanked f s rank) (same_family family b) at
 
 -- ---- what the code finds
-
 pub product_is : (a b x y : ℕ) → a ≡ x → b ≡ y → a * b ≡ x * y
 product_is a b x y e f = rw (e, f) refl
 

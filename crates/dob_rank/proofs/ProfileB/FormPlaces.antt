@@ -68,7 +68,6 @@ allowed_before ok t s (cell ∷ cells) some all = elim (cases_eq (layer cell) t)
 ]
 
 -- ---- for at most two pieces, by their squares
-
 weight_none : (w : ℕ → ℕ) (t s : ℕ) (ls : List ℕ) → count t ls ≡ 0 → weight w t s ls ≡ 1
 weight_none w t s [] none = refl
 weight_none w t s (l ∷ ls) none = grind (arith, nat_tests, weight_none w t (suc s) ls)
@@ -100,7 +99,6 @@ number_of_two ok base t s (cell ∷ cells) two =
     grind (arith, nat_tests, weight_one, number_of_one, number_of_two ok base t (suc s) cells, next_square, at_start)
 
 -- ---- the same by the squares that a mask has
-
 pub one_found : (ok : ℕ → ℕ → Bool) (base t : ℕ) (cells : List Cell) (mask place : ℕ) → length cells ≡ 12 → mask ≡ layer_mask t (map layer cells)
     → count t (map layer cells) ≡ 1 → place ≡ marks_below (ok (lowest mask)) (form (get_or cells (lowest mask) None)) → place ≡ allowed_number ok base t 0 cells
 one_found ok base t cells mask place long is one found =

@@ -9,7 +9,6 @@ use Rattle.dob_rank.proofs.Boards.Placed.{choice_of, lions_stand}
 use Rattle.dob_rank.proofs.ProfileB.LionBoards.{lion_board, no_chicks}
 
 -- ---- pieces of a layer on written-out squares
-
 pub allowed_none : (ok : ℕ → ℕ → Bool) (base t n s : ℕ) (ls : List ℕ) → count t ls ≡ 0 → are_allowed ok base t n s ls ≡ true
 allowed_none ok base t n s [] none = refl
 allowed_none ok base t n s (l ∷ ls) none = grind (arith, nat_tests, allowed_none ok base t n (suc s) ls)

@@ -4,7 +4,6 @@ use Rattle.dob_rank.proofs.Common.{free_squares, order, settle, lion_pairs, chos
 use Rattle.dob_rank.proofs.Boards.LayerCounts.{IsStage, none_shown, next_stage, first_stage, lions_stage}
 
 -- ---- ten squares are left
-
 pub lion_board : (run : ℕ) → IsStage (order Chicks) free_squares (lions_in run)
 lion_board run = lions_stage (run % lion_pairs / enemy_squares) (run % lion_pairs % enemy_squares) empty_layers (omega arith) (omega arith) first_stage
 
@@ -16,7 +15,6 @@ pub chicks_settled : (run chicks c : ℕ) → c < choose free_squares chicks →
 chicks_settled run chicks c below = (next_stage (order Chicks) chicks c free_squares (lions_in run) (omega arith) below (lion_board run)).settled.count_is
 
 -- ---- the weight of a choice
-
 pub length-free : (w : ℕ → ℕ) (s : ℕ) (ls : List ℕ) → length (free_weights w s ls) ≡ count (order Empty) ls
 length-free w s [] = refl
 length-free w s (l ∷ ls) = grind (arith, nat_tests, length-free w (suc s) ls)

@@ -9,12 +9,10 @@ use Rattle.dob_pieces.specs.Profiles.{may_stand}
 use Rattle.dob_rank.proofs.Boards.Settled.{AreLayers}
 
 -- ---- choices
-
 pub weight_same : (w : ℕ → ℕ) (t s : ℕ) (ls : List ℕ) → weight w t s (t ∷ ls) ≡ w s * weight w t (suc s) ls
 weight_same w t s ls = rw (eq-eqb t t refl) refl
 
 -- ---- forms
-
 pub one_if-and : (a b : Bool) → one_if (a && b) ≡ one_if a * one_if b
 one_if-and true b = (let e : one_if b ≡ 1 * one_if b = omega arith in e)
 one_if-and false b = (let e : 0 ≡ 0 * one_if b = omega arith in e)

@@ -3,6 +3,7 @@ ghost use Rattle.std.specs.Prelude.{◌≡◌, IfOk};
 
 use super::files::{FILE, beginning, table};
 use dob_dbfile::{Failed, Fault, Lent, Sink, Source, Std, read_table, write_table};
+use dob_value::Table;
 use std::io::{self, ErrorKind, Read, Write};
 use std::process::Abort;
 
@@ -80,15 +81,41 @@ const STOPS: [Option<ErrorKind>; 3] = [
     None,
 ];
 
+// Written and read so many bytes at a time, the file and its table are the same.
+#[test]
+fn devices_of_short_pieces(rt: HostRuntime) {
+    let table = table(&rt);
+    for longest in 1..9 {
+        let mut sink = Std::new(Shaky::new(Vec::new(rt.alloc()), longest, usize::MAX, None));
+        assert!(rt; write_table(rt.alloc(), &table, &mut sink).is_ok());
+        let bytes = sink.into_inner().bytes;
+        assert!(rt; bytes.as_slice() == FILE);
+        let mut source = Std::new(Shaky::new(bytes, longest, usize::MAX, None));
+        assert!(rt; read_table(rt.alloc(), &mut source).is_ok() && !Source::failed(&source));
+    }
+}
+
+// A writer that takes so many bytes at a time stops after each place: what it took is a beginning of the file.
+fn stops_after_each_place(
+    rt: &(impl Abort + AllocGlobal),
+    table: &Table,
+    longest: usize,
+    stop: Option<ErrorKind>,
+) {
+    for count in 0..FILE.len() {
+        let mut sink = Std::new(Shaky::new(Vec::new(rt.alloc()), longest, count, stop));
+        assert!(rt; write_table(rt.alloc(), table, &mut sink) == Err(Fault::Io(count as u64)));
+        assert!(rt; Sink::failed(&sink));
+        assert!(rt; Some(sink.into_inner().bytes.as_slice()) == FILE.get(..count));
+    }
+}
+
 #[test]
 fn a_writer_that_stops(rt: HostRuntime) {
     let table = table(&rt);
     for stop in STOPS {
-        for count in 0..FILE.len() {
-            let mut sink = Std::new(Shaky::new(Vec::new(rt.alloc()), 7, count, stop));
-            assert!(rt; write_table(rt.alloc(), &table, &mut sink) == Err(Fault::Io(count as u64)));
-            assert!(rt; Sink::failed(&sink));
-            assert!(rt; Some(sink.into_inner().bytes.as_slice()) == FILE.get(..count));
+        for longest in 1..9 {
+            stops_after_each_place(&rt, &table, longest, stop);
         }
     }
 }
@@ -101,15 +128,22 @@ fn a_writer_that_cannot_be_flushed(rt: HostRuntime) {
     assert!(rt; Sink::failed(&sink));
 }
 
+// So does a reader that gives so many at a time.
+fn fails_at_each_place(rt: &(impl Abort + AllocGlobal), longest: usize, error: ErrorKind) {
+    for count in 0..=FILE.len() {
+        let whole = beginning(rt, FILE, FILE.len());
+        let mut source = Std::new(Shaky::new(whole, longest, count, Some(error)));
+        let read = read_table(rt.alloc(), &mut source);
+        assert!(rt; read.err() == Some(Fault::Io(count as u64)));
+        assert!(rt; Source::failed(&source));
+    }
+}
+
 #[test]
 fn a_reader_that_stops(rt: HostRuntime) {
     for error in [ErrorKind::Other, ErrorKind::Interrupted] {
-        for count in 0..=FILE.len() {
-            let whole = beginning(&rt, FILE, FILE.len());
-            let mut source = Std::new(Shaky::new(whole, 7, count, Some(error)));
-            let read = read_table(rt.alloc(), &mut source);
-            assert!(rt; read.err() == Some(Fault::Io(count as u64)));
-            assert!(rt; Source::failed(&source));
+        for longest in 1..9 {
+            fails_at_each_place(&rt, longest, error);
         }
     }
 }

@@ -1,7 +1,8 @@
-// Worlds under events drawn at random, and the tables that they end with.
+// Worlds under events drawn at random: what was sent and applied on the way, and the tables that they end with.
 ghost use Rattle.std.specs.Prelude.{◌≡◌, ◌<◌, None};
 ghost use Rattle.dob_world.specs.Standing.{IsStanding, StandsOrStopped};
 
+use super::beginnings::{improvements, lists_are_beginnings};
 use super::{finish, world_of};
 use crate::sets::{classes_of, is_same_table};
 use dob_pieces::Family;
@@ -95,40 +96,52 @@ fn happen(rt: &impl Abort, world: &mut World, n: usize, dice: &mut Dice, events:
     }
 }
 
-// Worlds of the set of that name under `schedules` schedules of at most `events` events, each driven to its end, come to the table of a sweep.
-fn try_schedules(rt: &impl Abort, alloc: Global, name: &str, schedules: u64, events: u64)
+// Worlds of the set of that name under `schedules` schedules of at most `events` events, each driven to its end, come to the table of a sweep. How many of their
+// settlements improve a value.
+fn try_schedules(rt: &impl Abort, alloc: Global, name: &str, schedules: u64, events: u64) -> u64
     requires { 0 < events }
 {
     let classes = classes_of(rt, alloc, name);
     let swept = sweep_table(alloc, classes.family).expect(rt, "a table");
+    let mut improved: u64 = 0;
     for schedule in 0..schedules {
         let mut dice = Dice(schedule);
         let some = dice.roll(events);
-        try_schedule(rt, alloc, &mut dice, some, &swept);
+        improved = improved.saturating_add(try_schedule(rt, alloc, &mut dice, some, &swept));
     }
+    improved
 }
 
 // So does a world of the table's family, after so many events.
-fn try_schedule(rt: &impl Abort, alloc: Global, dice: &mut Dice, events: u64, swept: &Table) {
+fn try_schedule(
+    rt: &impl Abort,
+    alloc: Global,
+    dice: &mut Dice,
+    events: u64,
+    swept: &Table,
+) -> u64 {
     let n = 1 + dice.roll(16) as usize;
     let mut world = open(rt, alloc, swept.classes().family, n, dice);
     happen(rt, &mut world, n, dice, events);
+    lists_are_beginnings(rt, alloc, swept.classes(), &world, n);
     finish(rt, &mut world, n);
+    lists_are_beginnings(rt, alloc, swept.classes(), &world, n);
     let table = world.gather().expect(rt, "memory");
     assert!(rt; is_same_table(&table, swept));
+    improvements(&world, n)
 }
 
 #[test]
 fn schedules_of_lions_alone(rt: HostRuntime) {
-    try_schedules(&rt, rt.alloc(), "000", 900, 400);
+    assert!(rt; try_schedules(&rt, rt.alloc(), "000", 900, 400) == 0);
 }
 
 #[test]
 fn schedules_with_a_chick(rt: HostRuntime) {
-    try_schedules(&rt, rt.alloc(), "100", 60, 20_000);
+    assert!(rt; try_schedules(&rt, rt.alloc(), "100", 60, 20_000) > 0);
 }
 
 #[test]
 fn schedules_with_a_giraffe(rt: HostRuntime) {
-    try_schedules(&rt, rt.alloc(), "001", 60, 10_000);
+    assert!(rt; try_schedules(&rt, rt.alloc(), "001", 60, 10_000) > 0);
 }

@@ -3,7 +3,9 @@
 ghost use Rattle.std.specs.Prelude.{◌≡◌, ◌<◌};
 ghost use Rattle.dob_world.specs.Standing.{StandsOrStopped};
 
-use crate::sets::family_of;
+use super::driven;
+use crate::sets::{family_of, is_lions};
+use dob_share::Cause;
 use dob_world::{Event, Fault, History, World};
 use std::process::Abort;
 
@@ -106,4 +108,35 @@ fn a_stopped_world_is_as_before(rt: HostRuntime) {
     }
     assert!(rt; world.announced());
     are_alike(&rt, &world, &twin);
+}
+
+// A world that is driven to its end has the table from outside. Where a growth is refused there is no world, or a node has stopped for that, or there is no
+// table.
+#[test]
+fn driven_while_growths_are_refused(rt: HostRuntime) {
+    let mut world = match World::open(rt.alloc(), family_of(&rt, "000"), 2, 2, 1) {
+        Ok(world) => world,
+        Err(fault) => {
+            assert!(rt; fault == Fault::Memory);
+            return;
+        }
+    };
+    match driven(&rt, &mut world, 2) {
+        Ok(still) => assert!(rt; still),
+        Err(fault) => {
+            assert!(rt; is_for_memory(fault));
+            return;
+        }
+    }
+    if let Ok(table) = world.gather() {
+        assert!(rt; is_lions(&table));
+    }
+}
+
+// Whether a node of two has stopped since a growth was refused.
+fn is_for_memory(fault: Fault) -> bool {
+    match fault {
+        Fault::Stopped { node, cause } => node < 2 && cause == Cause::Memory,
+        _ => false,
+    }
 }

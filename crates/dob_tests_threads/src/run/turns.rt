@@ -1,15 +1,15 @@
-// Runners that are turned by hand, one after the other, in one thread. What a crew leaves of which a runner has failed, even after its end, is a clause of
-// `finish`.
+// Runners that are turned by hand, one after the other, in one thread. What a crew leaves of which a runner has failed is a clause of `finish`.
 ghost use Rattle.std.specs.Prelude.{◌≡◌, OnOk, None, ◌∷◌, []};
 ghost use Rattle.dob_crew.specs.CrewRunners.{IsNewCrew};
 ghost use Rattle.dob_runner.specs.Runners.{KeepsRunner};
 ghost use Rattle.dob_runner.specs.declared.runner.Runner.{Runner as AnyRunner};
 
 use super::{HoldsBackOne, Meeting, lions};
-use dob_board::{Board, Halt};
+use crate::sets::is_lions;
+use dob_board::{Blackboard, Halt};
 use dob_classes::Classes;
 use dob_run::{AlwaysOpen, Built, Fault, Gate, Runner, crew, finish};
-use dob_stops::Cause;
+use dob_share::Cause;
 use std::alloc::Global;
 use std::process::Abort;
 use std::sync::Wait;
@@ -20,7 +20,7 @@ use std::thread::Threads;
 fn two_runners(
     rt: &(impl Threads + Wait + Abort + Sync),
     alloc: Global,
-) -> (Classes, Board, Runner, Runner)
+) -> (Classes, Blackboard, Runner, Runner)
     ensures first { result.0.family ≡ result.2.family }
     ensures second { result.0.family ≡ result.3.family }
     ensures crew { IsNewCrew result.0.family 2 1 1 result.1 (result.2 ∷ result.3 ∷ []) }
@@ -80,7 +80,7 @@ fn close_both(
     rt: &(impl Threads + Wait + Abort + Sync),
     alloc: Global,
     classes: Classes,
-    board: Board,
+    board: Blackboard,
     first: Runner,
     second: Runner,
 ) -> Result<Built, Fault>
@@ -99,7 +99,48 @@ fn turned_by_hand(rt: HostRuntime) {
     let last = turn_once(&rt, &mut second, &classes, &AlwaysOpen).expect(&rt, "a turn");
     assert!(rt; last == Halt::Ended);
     let built = close_both(&rt, rt.alloc(), classes, board, first, second);
-    assert!(rt; built.is_ok());
+    let built = built.ok().expect(&rt, "a table");
+    assert!(rt; is_lions(&built.table));
+    assert!(rt; has_ended(&built.closed.words));
+}
+
+// Whether the words say that the end was announced, and that batches of both nodes were posted and taken.
+fn has_ended(words: &[u64]) -> bool {
+    match words {
+        [2, _, 1, _, first, second, _, _, taken, also, _] => {
+            *first > 0 && *second > 0 && *taken > 0 && *also > 0
+        }
+        _ => false,
+    }
+}
+
+// A runner that fails after the end was announced: that is what the crew answers.
+#[test]
+fn failed_after_the_end(rt: HostRuntime) {
+    let (classes, board, mut first, mut second) = two_runners(&rt, rt.alloc());
+    turn_to_the_end(&rt, &mut first, &mut second, &classes).expect(&rt, "an end");
+    assert!(rt; turn_once(&rt, &mut second, &classes, &HoldsBackOne) == Err(Cause::Held));
+    let built = close_both(&rt, rt.alloc(), classes, board, first, second);
+    assert!(rt; built.err() == Some(held(1)));
+}
+
+// What a crew answers of which that node was held back.
+fn held(node: usize) -> Fault {
+    Fault::Stopped {
+        node,
+        cause: Cause::Held,
+    }
+}
+
+// In one thread the node that is turned first looks in vain for the other's turn, and is held back, which is what the crew answers.
+#[test]
+fn one_thread_is_held_back(rt: HostRuntime) {
+    let (classes, board, mut first, mut second) = two_runners(&rt, rt.alloc());
+    let gate = Meeting::new(0, 100);
+    assert!(rt; turn_once(&rt, &mut first, &classes, &gate) == Err(Cause::Held));
+    assert!(rt; turn_once(&rt, &mut second, &classes, &AlwaysOpen) == Ok(Halt::Failed(0)));
+    let built = close_both(&rt, rt.alloc(), classes, board, first, second);
+    assert!(rt; built.err() == Some(held(0)));
 }
 
 // One runner turns twice and the other once, by that gate. Then one that says no stops the second runner, and that is what the first one sees.

@@ -18,7 +18,7 @@ pub(super) struct Misplaced<'a> {
 }
 
 impl Misplaced<'_> {
-    /// What is said of it.
+    /// The usage error, which names the option and its text.
     pub(super) fn text(self, alloc: Global) -> Result<String, AllocError> {
         let text = self.text;
         let name = self.name;
@@ -48,7 +48,7 @@ pub(super) fn stream_of<'a>(
     None
 }
 
-// The same of one row.
+// The row's option for which the matches have a stream, where the row is that of the subcommand.
 fn stream_in<'a>(row: SubcommandRow, name: &str, inner: &ArgMatches<'a>) -> Option<Misplaced<'a>>
     ensures { is_some result ≡ is_stream_in name.now inner.now (row_said row.entry) }
 {

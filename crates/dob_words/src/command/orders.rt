@@ -4,7 +4,7 @@ ghost use Rattle.clap.specs.Words.{first_value, found_of};
 ghost use Rattle.dob_words.specs.Forms.{Text, form_named, forms};
 ghost use Rattle.dob_words.specs.Shapes.{HasFit, IsNamed, texts_in};
 ghost use Rattle.dob_words.specs.Readings.{IsFlaggedBy, IsLinesOrder, IsOneOf, IsReadFor, line_form, name_asked, name_by, stats_form, text_given};
-ghost use Rattle.dob_words.specs.Words.{asks, cleared, is_number, number_in, profile_named};
+ghost use Rattle.dob_words.specs.Words.{asks, cleared, is_number, lacks_file, number_in, profile_named};
 ghost use Rattle.dob_words.specs.declared.command.orders.Question.TheVariants as ask;
 ghost use Rattle.dob_words.specs.declared.command.orders.ValueForm.TheVariants as value;
 
@@ -14,11 +14,11 @@ use dob_pieces::Profile;
 /// What is asked of a position.
 #[derive(Clone, Copy)]
 pub enum Question {
-    /// Its value.
+    /// What the position is worth.
     Value(ValueForm),
     /// Its moves with their values.
     Moves(MovesForm),
-    /// Its line.
+    /// The best moves of both sides from the position to the end.
     Line(LineForm),
 }
 
@@ -167,6 +167,10 @@ pub struct ReachSearch {
     pub profile: Profile,
     /// Whether there is a line for each distance.
     pub has_levels: bool,
+    /// Whether there is a line for each value by the file; it isn't where none is named.
+    pub has_values: bool,
+    /// Whether the lines are JSON objects.
+    pub is_json: bool,
     /// Whether lines on the console say how far it is.
     pub is_watched: bool,
 }
@@ -251,7 +255,7 @@ pub(super) fn order_for<'a>(name: &str, inner: &ArgMatches<'a>) -> Option<Order<
             profile: profile_named(inner.get_str("PROFILE")),
             set: text(inner, "CEG"),
         })),
-        "reach" => Some(Order::Lines(reach_order(inner))),
+        "reach" => reach_order(inner),
         "build" => Some(Order::Lines(build_order(inner))),
         "check" => Some(Order::Lines(LinesOrder::Check {
             file: text(inner, "FILE"),
@@ -289,21 +293,35 @@ pub(super) fn order_for<'a>(name: &str, inner: &ArgMatches<'a>) -> Option<Order<
     }
 }
 
-// What the matches of `reach` ask for.
-fn reach_order<'a>(inner: &ArgMatches<'a>) -> LinesOrder<'a>
+// What the matches of `reach` ask for; nothing if a line for each value is asked for and no file is named.
+fn reach_order<'a>(inner: &ArgMatches<'a>) -> Option<Order<'a>>
     requires { HasFit (form_named (codes "reach")) inner.now }
-    ensures { IsLinesOrder (codes "reach") inner.now result }
+    ensures { IsReadFor (cleared (asks (codes "reach") (texts_in (form_named (codes "reach")) inner.now))) result }
 {
+    let file = inner.get_str("FILE");
+    let values = inner.get_str("values");
+    if needs_file(file, values) {
+        return None;
+    }
     let search = ReachSearch {
         profile: profile_named(inner.get_str("PROFILE")),
         has_levels: inner.get_str("levels").is_some(),
+        has_values: values.is_some(),
+        is_json: inner.get_str("json").is_some(),
         is_watched: inner.get_str("progress").is_some(),
     };
-    LinesOrder::Reach {
+    Some(Order::Lines(LinesOrder::Reach {
         search,
-        file: inner.get_str("FILE"),
+        file,
         position: text(inner, "POSITION"),
-    }
+    }))
+}
+
+// Whether a line for each value is asked for where no file is named.
+fn needs_file(file: Option<&str>, values: Option<&str>) -> bool
+    ensures { result ≡ lacks_file (text_given file.entry) (text_given values.entry) }
+{
+    values.is_some() && file.is_none()
 }
 
 // What the matches of `build` ask for.

@@ -1,8 +1,7 @@
--- What stands in the list is a move.
-use Rattle.dob_value.proofs.Successors.{move_goes}
+-- What the walk comes to is a move of the class's representative.
+use Rattle.dob_moves.specs.Shown.{setup_on}
 use Rattle.dob_certify.proofs.outcomes.push_outcomes.Goals as goal
 
-pub outcome_of-outcome-requires-clause-played : goal.outcome_of-outcome-requires-clause-played
-outcome_of-outcome-requires-clause-played c =
-    move_goes c.args.classes.now.family.profile c.args.position.now.setup c.args.legal.now c.loop-played.played-index c.played-item.result
-    c.requires.legal c.loop-played-test.true c.played-item.is
+pub outcome_at-next-requires-clause-walk : goal.outcome_at-next-requires-clause-walk
+outcome_at-next-requires-clause-walk c =
+    (setup_on c.representative_of-position.result.board, c.representative_of-position.ensures.represents.0.0, c.start-status.ensures.walk)

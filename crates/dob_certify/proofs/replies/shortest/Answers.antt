@@ -1,31 +1,27 @@
 -- Each move is one more.
-use Rattle.std.proofs.Common.{refl}
-use Rattle.std.proofs.lemmas.Option.{slice_get_read}
-use Rattle.dob_value.proofs.Successors.{move_goes}
+use Rattle.std.proofs.Common.{◌≤◌, arith, length}
+use Rattle.dob_moves.specs.Shown.{setup_on}
 use Rattle.dob_certify.proofs.Shortest.{shortest_done, shortest_more, shortest_none}
 use Rattle.dob_certify.proofs.replies.shortest.Goals as goal
 
-pub loop-played-init : goal.loop-played-init
-loop-played-init c = shortest_none c.args.list.now.classes.now.family c.args.list.now.entries.now c.args.position.now.setup c.args.legal.now
+pub loop-place-init : goal.loop-place-init
+loop-place-init c =
+    shortest_none c.args.list.now.classes.now.family c.args.list.now.entries.now (setup_on c.args.position.now.board) c.start-status.new.self.moves.items
 
-pub outcome_of-outcome-requires-clause-played : goal.outcome_of-outcome-requires-clause-played
-outcome_of-outcome-requires-clause-played c =
-    move_goes c.args.list.now.classes.now.family.profile c.args.position.now.setup c.args.legal.now c.loop-played.played-index c.played-item.result
-    c.requires.legal c.loop-played-test.true c.played-item.is
+pub outcome_at-played-requires-clause-walk : goal.outcome_at-played-requires-clause-walk
+outcome_at-played-requires-clause-walk c = (setup_on c.args.position.now.board, c.requires, c.start-status.ensures.walk)
 
-pub loop-played-preserved : goal.loop-played-preserved
-loop-played-preserved c =
-    let setup = c.args.position.now.setup in
-    let legal = c.args.legal.now in
-    let index = c.loop-played.played-index in
-    let played = c.played-item.result in
-    let step = move_goes c.args.list.now.classes.now.family.profile setup legal index played c.requires.legal c.loop-played-test.true c.played-item.is in
-    rw c.shorter-best.ensures (shortest_more c.args.list.now.classes.now.family c.args.list.now.entries.now setup legal index played c.outcome_of-outcome.result.setup
-    (slice_get_read legal _ index played refl c.loop-played-test.true c.played-item.is) step.0
-    c.outcome_of-outcome.ensures.goes c.outcome_of-outcome.ensures.alone c.loop-played.best c.said_lost-found.result c.said_lost-found.ensures
-    c.loop-played.invariant)
+pub loop-place-preserved : goal.loop-place-preserved
+loop-place-preserved c =
+    let p = setup_on c.args.position.now.board in
+    let next = c.outcome_at-played.ensures.outcome p c.requires c.start-status.ensures.walk in
+    rw c.shorter-best.ensures (shortest_more c.args.list.now.classes.now.family c.args.list.now.entries.now p c.start-status.new.self.moves.items
+    c.loop-place.place c.outcome_at-played.result.played (setup_on c.outcome_at-played.result.position.board) c.outcome_at-played.ensures.played next.is_open
+    next.goes next.alone c.loop-place.best c.said_lost-found.result c.said_lost-found.ensures c.loop-place.invariant)
 
 pub returns : goal.returns
 returns c =
-    shortest_done c.args.list.now.classes.now.family c.args.list.now.entries.now c.args.position.now.setup c.args.legal.now c.loop-played.played-index
-    c.loop-played-test.false c.requires.legal c.loop-played.best c.loop-played.invariant
+    let legal = c.start-status.new.self.moves.items in
+    let all : length legal ≤ c.loop-place.place = omega (arith, c.len-place-end.ensures, c.loop-place-test.false, c.loop-place.auto.place-end) in
+    shortest_done c.args.list.now.classes.now.family c.args.list.now.entries.now (setup_on c.args.position.now.board) legal c.loop-place.place all
+    c.start-status.ensures.walk.moves c.loop-place.best c.loop-place.invariant

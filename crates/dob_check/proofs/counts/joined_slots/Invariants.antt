@@ -3,4 +3,4 @@ use Rattle.dob_check.proofs.Counted.{AreFirst}
 use Rattle.dob_check.proofs.counts.joined_slots.Given as goal
 
 abbrev pub invariant-loop-place : goal.invariant-loop-place
-invariant-loop-place l = AreFirst l.table.values l.place l.slots.items
+invariant-loop-place l = AreFirst l.table.value.values l.place l.slots.items

@@ -15,5 +15,5 @@ returns-in-Later c =
 
 pub returns-in-Mixed : goal.returns-in-Mixed
 returns-in-Mixed c =
-    in_run_before c.args.family c.args.block c.args.run c.args.place c.classes_in_stretches.result c.requires.block c.requires.run c.requires.place
-    c.classes_in_stretches.ensures
+    in_run_before c.args.family c.args.block c.args.run c.args.place c.classes_in_mixed_run.result c.requires.block c.requires.run c.requires.place
+    c.classes_in_mixed_run.ensures

@@ -20,9 +20,9 @@ returns-in-Ok-Version-clause-ran g c =
 pub returns-in-Ok-Usage-clause-ran : goal.returns-in-Ok-Usage-clause-ran
 returns-in-Ok-Usage-clause-ran g c =
     ran _ _ _ (reading.Usage c.in-Ok-Usage.text) (rw c.in-Ok-Usage.field-0-is at c.in-Ok-Usage.ensures.meaning)
-    (inl (_, c.ending-in-Ok-Usage.ensures.status, c.say.ensures, refl), leaves (g.S.Shelf.state c.args.shelf.now))
+    (inl (c.tell_usage.ensures.0, c.ending-in-Ok-Usage.ensures.status, c.tell_usage.ensures.1, refl), leaves (g.S.Shelf.state c.args.shelf.now))
 
 pub returns-in-Ok-Order-clause-ran : goal.returns-in-Ok-Order-clause-ran
 returns-in-Ok-Order-clause-ran g c =
     ran_order _ _ _ c.in-Ok-Order.order
-    (rw c.in-Ok-Order.field-0-is at c.in-Ok-Order.ensures.meaning) c.run_order.ensures.done.0 c.run_order.ensures.done.1
+    (rw c.in-Ok-Order.field-0-is at c.in-Ok-Order.ensures.meaning) c.run_placed.ensures.done

@@ -1,5 +1,5 @@
 -- The line that was taken is answered, behind what was held.
-use Rattle.dob_files.proofs.Common.{Bool, refl, subst, TakesLine, told_of}
+use Rattle.dob_files.proofs.Common.{Bool, err_from_is_err_and, inr, refl, subst, TakesLine, told_of}
 use Rattle.dob_files.proofs.talk.hear_next.Goals as goal
 
 pub returns-then-not-branch-clause-heard : goal.returns-then-not-branch-clause-heard
@@ -21,3 +21,12 @@ returns-clause-heard g c = (
   c.in_ok-add.ensures.lines,
   c.in_ok-add.ensures.refused,
 )
+
+pub returns-in_err-answer-clause-taken : goal.returns-in_err-answer-clause-taken
+returns-in_err-answer-clause-taken g c =
+    let p = err_from_is_err_and c.from_residual-in_err-answer.result c.from_residual-in_err-answer.ensures.1 in
+    rw (p.1, p.2) (inr (λ known is. (
+      c.next_line.new.line.items,
+      subst (λ (b : Bool). TakesLine known b c.next_line.new.line.items (g.S.Shelf.state c.next_line.new.self).input) c.if-not-branch.false
+          (c.in_ok-next_line.ensures.read known is),
+    )))

@@ -65,7 +65,7 @@ returns-in-Err-clause-told g c =
       ),
       inr (
         c.hear_next.new.held.is_refused,
-        first_told heard (g.O.Sink.state c.tell-told.new.out) (put_or_stopped _ _ c.tell-told.result c.tell-told.ensures.done c.tell-told.ensures.part),
+        first_told heard (g.O.Sink.state c.tell-told.new.out) (g.S.Shelf.state c.hear_next.new.shelf).input c.in-Err.fault c.in-Err.ensures.taken (put_or_stopped _ _ c.tell-told.result c.tell-told.ensures.done c.tell-told.ensures.part),
       ),
     )
 
@@ -85,7 +85,7 @@ returns-clause-told g c = inl (
   (inr (inl refl), c.loop.invariant.4 ∙ sym (or-false (g.S.Shelf.state c.args.shelf.now).has_failed)),
   inr (
     c.loop.held.is_refused,
-    first_told c.loop.invariant.0 (g.O.Sink.state c.tell-told-2.new.out)
+    first_told c.loop.invariant.0 (g.O.Sink.state c.tell-told-2.new.out) _ _ (inl refl)
         (put_or_stopped _ _ c.tell-told-2.result c.tell-told-2.ensures.done c.tell-told-2.ensures.part),
   ),
 )

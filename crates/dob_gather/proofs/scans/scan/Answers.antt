@@ -1,7 +1,7 @@
 -- Part after part joins the list.
 use Rattle.dob_gather.proofs.Common.{◌≡◌, ◌+◌, ◌++◌, ◌∙◌, ap, arith, subst, sym, ℕ, classes_of}
 use Rattle.dob_rank.specs.Families.{class_setup}
-use Rattle.dob_lawful.specs.Openings.{IsOpening}
+use Rattle.dob_history.specs.Openings.{IsOpening}
 use Rattle.dob_gather.specs.Scans.{AreOpeningsFrom}
 use Rattle.dob_gather.proofs.Found.{found_joined}
 use Rattle.dob_gather.proofs.scans.scan.Goals as goal

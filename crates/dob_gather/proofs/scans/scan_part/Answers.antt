@@ -4,7 +4,7 @@ use Rattle.rayon.specs.Numbers.{nat_range}
 use Rattle.rayon.proofs.ToStd.{nat_range-All}
 use Rattle.dob_rank.specs.Families.{class_setup}
 use Rattle.dob_share.specs.declared.opening.Opening.{Opening}
-use Rattle.dob_lawful.specs.Openings.{IsOpening}
+use Rattle.dob_history.specs.Openings.{IsOpening}
 use Rattle.dob_gather.specs.Scans.{AreOpeningsFrom}
 use Rattle.dob_gather.proofs.Found.{found_are}
 use Rattle.dob_gather.proofs.scans.scan_part.Goals as goal

@@ -6,9 +6,8 @@ use Rattle.dob_moves.proofs.Arrivals.{step_arrived, hands_after_step}
 use Rattle.dob_moves.proofs.boards_after.after_step.Goals as goal
 
 pub returns : goal.returns
-returns c =
-    let p = c.args.position.now.setup in
-    let twelve = c.args.position.now.legal.squares in
+returns c = λ p legal are met.
+    let twelve = legal.squares in
     let low_from : c.args.from < 12 = search rules in
     let low_to : c.args.to < 12 = search rules in
     let before = with_cell (turned p) c.turned.result None in
@@ -16,5 +15,6 @@ returns c =
     let long : length before.board ≡ 12 = length-set (turned p).board c.turned.result None ∙ length-turned p in
     let arrived : HasArrived before after c.turned-2.result c.arrives_as.result =
     rw (c.turned.ensures, c.turned-2.ensures, c.arrives_as.ensures) (step_arrived p c.args.kind c.args.from c.args.to c.args.grows twelve low_from low_to) in
-    c.with_arrived.ensures before after long arrived (hands_after_step p c.args.kind c.args.from c.args.to c.args.grows _ c.with_caught.ensures)
-    (c.without-left.ensures (turned p) before (with_one (turned p) c.turned.result None (length-turned p) (omega (arith, low_from, c.turned.ensures))) c.requires)
+    c.with_arrived.ensures before after long arrived
+    (hands_after_step p c.args.kind c.args.from c.args.to c.args.grows _ _ are.hands_are (c.with_caught.ensures p legal are met))
+    (c.without-left.ensures (turned p) before (with_one (turned p) c.turned.result None (length-turned p) (omega (arith, low_from, c.turned.ensures))) are)

@@ -1,5 +1,9 @@
 -- What is opened is sound.
-use Rattle.dob_node.proofs.Common.{◌∙◌, ◌≡◌, All, All-nil, HasItemEntries, HistoryView, List, OutboxView, Settlement, ap, arith, refl, subst, sym}
+use Rattle.dob_node.proofs.Common.{◌∙◌, ◌≡◌, HistoryView, List, OutboxView, Settlement, ap, arith, refl, sends_of, subst}
+use Rattle.std.proofs.Common.{ap₂}
+use Rattle.std.proofs.lemmas.List.{length-map}
+use Rattle.dob_share.specs.Items.{items_of_parts}
+use Rattle.dob_node.proofs.Common.{OutboxState}
 use Rattle.dob_node.proofs.Opens.{places_are, share_opened, opened_cells, opened_kept}
 use Rattle.dob_node.proofs.Sends.{addressed_empty}
 use Rattle.dob_node.proofs.node.node_with.Goals as goal
@@ -11,7 +15,7 @@ returns-clause-opened c = λ openings are out. record {
   places = places_are out c.requires.owner;
   statuses = out.statuses;
   cells = opened_cells out c.requires.owner c.args.family are;
-  nothing = (refl, c.new.ensures);
+  nothing = (refl, ap₂ items_of_parts c.new.ensures.parts c.new.ensures.classes);
   going = refl;
   outboxes = c.in_ok-outboxes.ensures.empty;
 }
@@ -25,8 +29,7 @@ returns-clause-sound c =
           (subst (λ (xs : List Settlement). c.in_ok-history.history ≡ record { id = c.args.id; n = c.args.nodes; settlements = xs; room = 0 })
           (share_opened out c.requires.owner) c.in_ok-history.ensures);
       emitted = omega arith;
-      entries = subst (λ xs. All HasItemEntries xs) (sym c.new.ensures) (All-nil HasItemEntries);
-      receivers = c.in_ok-outboxes.ensures.whole;
-      addressed = addressed_empty c.args.family c.args.nodes c.args.id c.in_ok-outboxes.outboxes.items c.in_ok-outboxes.ensures.empty;
+      receivers = length-map c.in_ok-outboxes.outboxes.items (λ (o : OutboxState). o.sends) ∙ c.in_ok-outboxes.ensures.whole;
+      addressed = addressed_empty c.args.family c.args.nodes c.args.id (sends_of c.in_ok-outboxes.outboxes.items) c.in_ok-outboxes.ensures.empty;
       nothing_to_self = ap (λ (o : OutboxView). o.items) (c.in_ok-outboxes.ensures.empty c.args.id);
     }

@@ -1,43 +1,61 @@
 -- One outbox more has the settlement, or is left out.
-use Rattle.dob_node.proofs.Common.{◌∙◌, ap, arith, empty_outbox, length}
-use Rattle.dob_node.proofs.Sends.{added_none, added_own, added_one, addressed_still, one_more_each}
-use Rattle.dob_node.specs.Outboxes.{HaveOneMore}
-use Rattle.dob_node.proofs.outboxes.add_for_others.Goals.{then-to-from+in-Ok, else-to-from, In-Err}
+use Rattle.std.proofs.Common.{◌≤◌, arith, vec_len}
+use Rattle.std.proofs.lemmas.List.{get_or-map, length-map}
+use Rattle.dob_node.proofs.Common.{◌<◌, ◌∙◌, ◌≡◌, OutboxState, OutboxView, added, ap, empty_outbox, get_or, get_or-set_other, items_of, length, length-set, predecessors}
+use Rattle.dob_node.proofs.Common.{refl, sends_of, subst, sym}
+use Rattle.dob_node.proofs.Sends.{added_none, added_own, added_one, addressed_still, sends_set}
+use Rattle.dob_node.proofs.outboxes.add_for_others.Goals.{then-to-from, else-to-from, After-len-nodes}
 use Rattle.dob_node.proofs.outboxes.add_for_others.Goals as goal
 
+abbrev sends : OutboxState → OutboxView
+sends o = o.sends
+
+count_is : (c : After-len-nodes) → c.len-nodes.result ≡ length (sends_of c.args.outboxes.now.items)
+count_is c = c.len-nodes.ensures ∙ c.args.outboxes.now.ok.0 ∙ sym (length-map c.args.outboxes.now.items sends)
+
 pub loop-to-init : goal.loop-to-init
-loop-to-init c = added_none c.args.targets.now c.args.settlement c.len-nodes.result c.args.from c.args.outboxes.now.items
+loop-to-init c = record {
+  added = added_none c.args.targets.now c.args.settlement c.len-nodes.result c.args.from (sends_of c.args.outboxes.now.items);
+  later = λ k default high. refl;
+  whole = refl;
+}
 
 pub add_to-requires-clause-of : goal.add_to-requires-clause-of
-add_to-requires-clause-of c =
-    addressed_still c.loop-to.invariant (c.len-nodes.ensures ∙ c.args.outboxes.now.ok.0) c.loop-to.outboxes.ok.0 c.requires.addressed c.loop-to-test.true
+add_to-requires-clause-of c = λ default.
+    let at = (goal.at.add_to-requires-clause-of c).After-len-nodes in
+    let k = c.loop-to.to in
+    let mid = c.loop-to.outboxes in
+    let s = c.args.settlement in
+    let targets = c.args.targets.now in
+    let low : k < length mid.items = omega (arith, c.loop-to-test.true, c.len-nodes.ensures, c.args.outboxes.now.ok.0, c.loop-to.invariant.whole) in
+    let of = subst (λ (o : OutboxView). (o.n ≡ vec_len mid) × (o.to ≡ k) × (targets ≡ predecessors o.family s.class)) (get_or-map sends mid.items k default default.sends low)
+    (addressed_still c.loop-to.invariant.added (count_is at) (mid.ok.0 ∙ sym (length-map mid.items sends)) c.requires.addressed c.loop-to-test.true default.sends) in
+    let room = subst (λ (o : OutboxState). length targets ≤ o.room) (sym (c.loop-to.invariant.later k default (omega arith)))
+    (c.requires.room k default (omega (arith, c.loop-to.invariant.whole, low)) c.if-to-from.true) in
+    (of.0, of.1, of.2, room)
 
 pub loop-to-preserved : goal.loop-to-preserved
-loop-to-preserved c = elim c.if-to-from.branch [
-  | then-to-from+in-Ok w ↦
-      rw w.outboxes-is (added_one c.loop-to.invariant (empty_outbox c.requires.addressed.0 0 0 0) (c.len-nodes.ensures ∙ c.args.outboxes.now.ok.0)
-      c.loop-to.outboxes.ok.0 w.if-to-from.true c.loop-to-test.true w.in-Ok.ensures.added)
-  | else-to-from w ↦ rw w.outboxes-is (added_own c.loop-to.invariant w.if-to-from.false)
-]
-
-pub take_back-requires-clause-upto : goal.take_back-requires-clause-upto
-take_back-requires-clause-upto c =
-    omega (
-      arith,
-      c.loop-to.invariant.whole,
-      ap length c.in-Err.ensures.unchanged,
-      c.len-nodes.ensures,
-      c.args.outboxes.now.ok.0,
-      c.add_to.new.outboxes.ok.0,
-      c.loop-to-test.true,
-    )
-
--- the outboxes for the nodes before have the settlement
-one_more : (c : In-Err) → HaveOneMore c.args.targets.now c.args.from c.loop-to.to c.args.outboxes.now.items c.add_to.new.outboxes.items
-one_more c = one_more_each (c.len-nodes.ensures ∙ c.args.outboxes.now.ok.0) c.loop-to.invariant c.in-Err.ensures.unchanged c.requires.addressed
-
-pub take_back-requires-clause-added : goal.take_back-requires-clause-added
-take_back-requires-clause-added c = (c.args.outboxes.now.items, one_more (goal.at.take_back-requires-clause-added c).In-Err)
-
-pub returns-in-Err-clause-unchanged : goal.returns-in-Err-clause-unchanged
-returns-in-Err-clause-unchanged c = c.take_back.ensures c.args.outboxes.now.items (one_more (goal.at.returns-in-Err-clause-unchanged c).In-Err)
+loop-to-preserved c =
+    let at = (goal.at.loop-to-preserved c).After-len-nodes in
+    let k = c.loop-to.to in
+    let mid = c.loop-to.outboxes in
+    let s = c.args.settlement in
+    let more = items_of (λ _. c.args.targets.now) (vec_len mid) k s in
+    let low : k < length mid.items = omega (arith, c.loop-to-test.true, c.len-nodes.ensures, c.args.outboxes.now.ok.0, c.loop-to.invariant.whole) in
+    elim c.if-to-from.branch [
+      | then-to-from w ↦
+          let new = w.add_to.new.outboxes.items in
+          let outbox = w.add_to.ensures.0 in
+          rw w.outboxes-is (record {
+            added = added_one c.loop-to.invariant.added (empty_outbox c.requires.addressed.0 0 0 0) (count_is at) (mid.ok.0 ∙ sym (length-map mid.items sends))
+                w.if-to-from.true c.loop-to-test.true (sends_set mid.items new k outbox (λ (o : OutboxView). added o s more) low w.add_to.ensures.1 w.add_to.ensures.2);
+            later = λ j default high. ap (λ xs. get_or xs j default) w.add_to.ensures.1
+                ∙ get_or-set_other mid.items k j outbox default (λ same. omega (arith, same, high)) ∙ c.loop-to.invariant.later j default (omega (arith, high));
+            whole = ap length w.add_to.ensures.1 ∙ length-set mid.items k outbox ∙ c.loop-to.invariant.whole;
+          })
+      | else-to-from w ↦ rw w.outboxes-is (record {
+        added = added_own c.loop-to.invariant.added w.if-to-from.false;
+        later = λ j default high. c.loop-to.invariant.later j default (omega (arith, high));
+        whole = c.loop-to.invariant.whole;
+      })
+    ]

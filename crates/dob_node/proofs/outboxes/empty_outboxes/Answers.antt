@@ -1,5 +1,6 @@
 -- One empty outbox more.
-use Rattle.dob_node.proofs.Common.{◌++◌, ◌+◌, ◌∙◌, ◌∷◌, ◌≡◌, OutboxView, [], ap, length, length-append, ℕ}
+use Rattle.dob_node.proofs.Common.{◌++◌, ◌+◌, ◌∙◌, ◌∷◌, ◌≡◌, OutboxState, OutboxView, [], ap, length, length-append, sends_of, ℕ}
+use Rattle.std.proofs.lemmas.List.{length-map, map-append}
 use Rattle.dob_node.proofs.Sends.{empties_more}
 use Rattle.dob_node.proofs.outboxes.empty_outboxes.Goals as goal
 
@@ -9,8 +10,9 @@ loop-to-preserved c =
     let is : c.push.new.self.items ≡ old ++ c.new.result ∷ [] = c.in_ok-push.ensures.items in
     record {
       whole = ap length is ∙ length-append old (c.new.result ∷ []) ∙ ap (λ (k : ℕ). k + 1) c.loop-to.invariant.whole;
-      empty = empties_more c.args.family c.get-count.result c.args.from c.loop-to.to old c.push.new.self.items c.loop-to.invariant.whole c.loop-to.invariant.empty
-          (is ∙ ap (λ (o : OutboxView). old ++ o ∷ []) c.new.ensures);
+      empty = empties_more c.args.family c.get-count.result c.args.from c.loop-to.to (sends_of old) (sends_of c.push.new.self.items)
+          (length-map old (λ (o : OutboxState). o.sends) ∙ c.loop-to.invariant.whole) c.loop-to.invariant.empty
+          (ap sends_of is ∙ map-append (λ (o : OutboxState). o.sends) old (c.new.result ∷ []) ∙ ap (λ (o : OutboxView). sends_of old ++ o ∷ []) c.new.ensures);
     }
 
 pub returns-clause-empty : goal.returns-clause-empty

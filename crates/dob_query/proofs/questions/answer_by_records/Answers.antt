@@ -1,5 +1,5 @@
 -- A position has one record.
-use Rattle.dob_records.proofs.Recorded.{one_recorded}
+use Rattle.dob_query.proofs.Recorded.{one_recorded}
 use Rattle.dob_query.proofs.questions.answer_by_records.Goals as goal
 
 pub told_by-requires-clause-single : goal.told_by-requires-clause-single

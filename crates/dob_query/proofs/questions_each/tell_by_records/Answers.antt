@@ -20,10 +20,10 @@ returns g c =
     let gives = g.S.Src.Source.gives c.in_ok-source.source in
     let shows = g.S.Src.Source.shows c.in_ok-source.source in
     let opened = c.in_ok-source.ensures.failed ∙ or-false before.has_failed in (
-      each_weaker found.input before.input (TellsRecords question gives shows)
+      each_weaker found.input before.input told.input after.input (TellsRecords question gives shows)
           (AreEachLines way.Records question (before.has file)) _
           (λ fault. IsEachFault way.Records over file fault × FailsWhere over (is_io fault)) _ (FailsWhere over false)
-          (sink_change (g.O.Sink.state c.args.out.now) (g.O.Sink.state c.told_by-source.new.out)) c.told_by-source.result.1 (sym c.find.ensures.input)
+          (sink_change (g.O.Sink.state c.args.out.now) (g.O.Sink.state c.told_by-source.new.out)) c.told_by-source.result.1 (sym c.find.ensures.input) c.close.ensures.input
           (places_told question over file gives shows c.in_ok-source.ensures.found c.in_ok-source.ensures.shown found.input c.find.ensures.input)
           (λ fault holds. (
             places_ended question over file gives shows c.in_ok-source.ensures.found c.in_ok-source.ensures.shown found.input c.find.ensures.input fault

@@ -1,5 +1,5 @@
 -- Sizes outside their limits are refused; a crew of sizes within them builds.
-use Rattle.dob_run.proofs.Common.{Err, Fault, Ok, OnOk, Result, rules, carried, says_no, Halted, IsUnheld, StopsSo, IsFailureOf, HasBuildFault}
+use Rattle.dob_run.proofs.Common.{Err, BuildFault, Ok, OnOk, Result, rules, carried, says_no, Halted, IsUnheld, StopsSo, IsFailureOf, HasBuildFault}
 use Rattle.dob_crew.proofs.CrewRunners.{outside_none}
 use Rattle.dob_run.proofs.CrewEnds.{unbegun_fault, unbegun_stops, unbegun_unheld}
 use Rattle.dob_run.proofs.build.run_nodes.Goals as goal
@@ -25,7 +25,7 @@ returns-in_err-sizes g c =
       within = search rules;
     }
 
-on_any : {A B : Type 0} (r : Result A Fault) → B → OnOk r B
+on_any : {A B : Type 0} (r : Result A BuildFault) → B → OnOk r B
 on_any (Ok x) so = so
 on_any (Err why) so = tt
 

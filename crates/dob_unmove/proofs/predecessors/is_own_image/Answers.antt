@@ -6,6 +6,7 @@ use Rattle.dob_unmove.proofs.Classes.{IsNumbering-classes, first_of_two}
 use Rattle.dob_unmove.proofs.Edges.{RepresentsClass-class_setup, class_seen}
 use Rattle.dob_unmove.proofs.Gathering.{own_image, other_image}
 use Rattle.dob_unmove.proofs.Kept.{legal_turned}
+use Rattle.dob_unmove.proofs.Undone.{turned_lions}
 use Rattle.dob_unmove.proofs.predecessors.is_own_image.Goals as goal
 use Rattle.dob_unmove.proofs.predecessors.is_own_image.Goals.{After-mirrored-image}
 
@@ -45,6 +46,7 @@ returns c = (
   λ own.
       let q = class_setup c.args.classes.now.family c.args.class in
       let seen = class_seen c.args.classes.now.family c.args.class c.requires.class in
-      let on_b = c.has_lions_on_b.ensures (turned q) (legal_turned c.args.classes.now.family (turned q) seen) c.requires.ways (sym (turned-mirrored q) ∙ ap turned own) in
+      let on_b = c.has_lions_on_b.ensures (turned q) (turned_lions (turned q) (legal_turned c.args.classes.now.family (turned q) seen)) c.requires.ways.board_is
+      (sym (turned-mirrored q) ∙ ap turned own) in
       absurd (true≢false (sym on_b ∙ c.if-has_lions_on_b.false)),
 )

@@ -1,5 +1,5 @@
 -- Each class's status and successors go to the ends of the lists.
-use Rattle.dob_value.proofs.Common.{◌∙◌, ◌≡◌, arith, subst, classes_of, class_setup, AreNodes, ClassStandsFor, IsNode}
+use Rattle.dob_value.proofs.Common.{◌∙◌, ◌≡◌, arith, subst, classes_of, AreNodes}
 use Rattle.std.proofs.lemmas.Result.{err_from_is_err_and}
 use Rattle.dob_value.proofs.Nodes.{nodes_grown}
 use Rattle.dob_value.proofs.graph.graph_of.Goals as goal
@@ -10,14 +10,9 @@ loop-number-preserved c =
     let number = c.loop-number.number in
     let found = c.in_ok-status.ensures in
     let status = c.in_ok-status.status in
-    let known : IsNode family.profile (ClassStandsFor family) (class_setup family number) status found.0 =
-    subst (λ p. IsNode c.args.classes.now.family.profile (ClassStandsFor family) p status found.0) c.class_at-position.ensures.setup found.2 in
     nodes_grown family number c.loop-number.statuses.items c.loop-number.starts.items c.loop-number.successors.items status found.0
-    _ _ _ _ c.loop-number.invariant known c.in_ok-push-2.ensures.items c.in_ok-push-3.ensures.items
+    _ _ _ _ c.loop-number.invariant found.2 c.in_ok-push-2.ensures.items c.in_ok-push-3.ensures.items
     (c.len.ensures ∙ c.push_successors.new.successors.ok.0) found.1
-
-pub push_successors-requires : goal.push_successors-requires
-push_successors-requires c = c.class_at-position.ensures.representative.0
 
 pub returns-clause-graph : goal.returns-clause-graph
 returns-clause-graph c =

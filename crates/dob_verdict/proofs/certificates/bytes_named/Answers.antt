@@ -1,4 +1,4 @@
--- A file that the shelf has isn't opened, and isn't read, only for lack of memory.
+-- A file that the shelf has isn't opened, and isn't read, only for lack of memory; what its source gives are its bytes.
 use Rattle.dob_verdict.proofs.Common.{err_from_is_err_and}
 use Rattle.dob_verdict.proofs.Proven.{shelf_bytes}
 use Rattle.dob_files.proofs.Kept.{shelf_fails}

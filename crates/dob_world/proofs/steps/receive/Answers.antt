@@ -14,7 +14,6 @@ apply_batch-requires c =
       sound = search rules;
       family = first.of.0 ∙ sym same.0;
       n = first.of.1 ∙ sym same.2;
-      entries = first.entries;
       going = search rules;
     }
 

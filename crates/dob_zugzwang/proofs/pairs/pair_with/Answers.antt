@@ -1,5 +1,6 @@
 -- The pair is that of the representative with its turn, where the turn's class isn't lower and both are worth less than nothing.
 use Rattle.dob_zugzwang.proofs.Common.{◌∙◌, ◌≤◌, arith, refl, subst, sym, true≢false, turned, Family, IsInClass, IsPositionOf, IsWorse}
+use Rattle.dob_moves.specs.Shown.{setup_on}
 use Rattle.dob_zugzwang.proofs.Pairing.{in_turn, no_better, no_lower, pair_found}
 use Rattle.dob_zugzwang.proofs.Turned.{turn_is_position}
 use Rattle.dob_zugzwang.proofs.pairs.pair_with.Goals as goal
@@ -9,11 +10,11 @@ pub class_of-turn_class-requires : goal.class_of-turn_class-requires
 class_of-turn_class-requires c =
     let turn = c.requires.turn in
     let is = turn_is_position c.args.table.now.family turn.representative turn.represents.0.0 turn.opens.0 in
-    subst (λ (f : Family). IsPositionOf f c.args.turn.now.setup) (sym c.classes.ensures.family)
+    subst (λ (f : Family). IsPositionOf f (setup_on c.args.turn.now.board)) (sym c.classes.ensures.family)
     (subst (IsPositionOf c.args.table.now.family) (sym turn.same) is)
 
 in_it : (c : After-class_of-turn_class) → IsInClass c.args.table.now.family (turned c.requires.turn.representative) c.class_of-turn_class.result
-in_it c = in_turn c.args.table.now.family c.classes.result.now.family c.requires.turn.representative c.args.turn.now.setup c.class_of-turn_class.result
+in_it c = in_turn c.args.table.now.family c.classes.result.now.family c.requires.turn.representative (setup_on c.args.turn.now.board) c.class_of-turn_class.result
     c.classes.ensures.family c.requires.turn.same c.class_of-turn_class.ensures.class
 
 pub returns-then-turn_class-class : goal.returns-then-turn_class-class

@@ -7,12 +7,15 @@ pub returns-in-Some-clause-answer : goal.returns-in-Some-clause-answer
 returns-in-Some-clause-answer c =
     inr (inl (refl, inr (c.requires.supported, c.in-Some.place, refl, rw c.requires.one at c.in-Some.ensures.broken)))
 
+pub is_shown-requires-clause-member : goal.is_shown-requires-clause-member
+is_shown-requires-clause-member c = rw c.of-position.ensures c.requires.member
+
 pub returns-in-None-clause-answer : goal.returns-in-None-clause-answer
 returns-in-None-clause-answer c =
     let lost = c.args.lost.now in
     let held = c.args.held.now in
     let all = rw c.requires.one at c.in-None.ensures.broken in
-    let shows = rw c.requires.one at c.is_shown.ensures in
+    let shows = rw (c.requires.one, c.of-position.ensures) at c.is_shown.ensures in
     elim (cases_Bool c.is_shown.result) [
       | inl on ↦ inl (
         c.shown_number.ensures.shown on,

@@ -5,8 +5,8 @@ use Rattle.dob_certificate.proofs.lookup.ByClassLookup.entry_at.Goals as goal
 pub returns-then-class-class_count : goal.returns-then-class-class_count
 returns-then-class-class_count c = rw (← c.as_slice.ensures.entries, ← c.requires.stands) (record {
   within = omega (arith, c.class_count.ensures.number, c.if-class-class_count.true);
-  represents = c.class_at-position.ensures.representative;
-  setup = c.class_at-position.ensures.setup;
+  represents = c.representative_of-position.ensures.represents.0;
+  setup = c.representative_of-position.ensures.setup;
   plies_are = refl;
 })
 

@@ -1,6 +1,4 @@
 -- What fits is taken, and what it makes is kept.
-use Rattle.std.proofs.lemmas.Grind.{common_steps}
-use Rattle.std.proofs.Common.{arith}
 use Rattle.dob_history.proofs.Common.{◌++◌, ◌+◌, ◌∙◌, ◌≡◌, HasSettled, HistoryView, IsTaken, ap, listed, refl, rules, starts_count, subst, sym, take, ℕ}
 use Rattle.dob_history.proofs.Stored.{seen, room_made, next_seen}
 use Rattle.dob_history.proofs.Kepts.{IsNews, taken_by, news_is, news_seen, same_history, kept_still}
@@ -11,7 +9,7 @@ use Rattle.dob_history.proofs.history.History.take_seen.Goals as goal
 taken : (c : In_ok-given) (grown : HistoryView) →
     grown ≡ record c.args.self.now { settlements = c.args.self.now.settlements ++ listed c.in_ok-given.given; room = grown.room } →
     IsTaken c.args.item c.args.share.now c.apply_seen.new.self c.args.self.now grown
-taken c grown is = taken_by c.args.share.now c.apply_seen.new.self c.args.item c.in_ok-given.given c.args.self.now grown c.in_ok-given.ensures.applied is
+taken c grown is = taken_by c.args.share.now c.apply_seen.new.self c.args.item c.in_ok-given.given c.args.self.now grown c.requires.entries c.in_ok-given.ensures.applied is
 
 -- the settlement that it makes can be stored
 news : (c : In-Some) → IsNews c.self.inside.nodes c.self.inside.id (starts_count c.self.inside.starts + c.self.inside.count) c.in-Some.settlement
@@ -21,8 +19,8 @@ news c =
     let grown : HistoryView = record c.args.self.now { settlements = c.args.self.now.settlements ++ listed c.in_ok-given.given } in
     news_seen c.self.inside.nodes c.self.inside.id c.self.inside.room c.self.inside.count c.self.inside.starts c.self.inside.stored c.self.invariant.1
     c.self.view_is c.in-Some.settlement
-    (news_is c.requires.kept.0 share.nodes share.id share after c.args.self.now grown c.args.item c.requires.kept.1 c.requires.entries
-    (taken_by share after c.args.item c.in_ok-given.given c.args.self.now grown c.in_ok-given.ensures.applied refl) c.in-Some.settlement
+    (news_is c.requires.kept.0 share.nodes share.id share after c.args.self.now grown c.args.item c.requires.kept.1
+    (taken_by share after c.args.item c.in_ok-given.given c.args.self.now grown c.requires.entries c.in_ok-given.ensures.applied refl) c.in-Some.settlement
     (subst (λ given. HasSettled share after c.args.item.to given) c.in-Some.is c.in_ok-given.ensures.applied.settled))
 
 -- where it is stored, the history has it behind its others
@@ -60,7 +58,7 @@ returns-in-Some-clause-taken c =
 
 pub returns-in-Some-clause-kept : goal.returns-in-Some-clause-kept
 returns-in-Some-clause-kept c = λ family kept.
-    kept_still family c.args.share.now.nodes c.args.share.now.id c.args.share.now c.apply_seen.new.self c.args.self.now _ c.args.item kept c.requires.entries
+    kept_still family c.args.share.now.nodes c.args.share.now.id c.args.share.now c.apply_seen.new.self c.args.self.now _ c.args.item kept
     (let at = goal.at.returns-in-Some-clause-kept c in taken at.In_ok-given _ (grown at.After-store (news at.In-Some) _))
 
 pub returns-in_default-clause-taken : goal.returns-in_default-clause-taken
@@ -68,113 +66,5 @@ returns-in_default-clause-taken c = taken (goal.at.returns-in_default-clause-tak
 
 pub returns-in_default-clause-kept : goal.returns-in_default-clause-kept
 returns-in_default-clause-kept c = λ family kept.
-    kept_still family c.args.share.now.nodes c.args.share.now.id c.args.share.now c.apply_seen.new.self c.args.self.now _ c.args.item kept c.requires.entries
+    kept_still family c.args.share.now.nodes c.args.share.now.id c.args.share.now c.apply_seen.new.self c.args.self.now _ c.args.item kept
     (taken (goal.at.returns-in_default-clause-kept c).In_ok-given _ (same (goal.at.returns-in_default-clause-kept c).In_default))
-
-pub invariant_of-self : goal.invariant_of-self
-invariant_of-self c = grind (arith, common_steps)
-
-pub returns-in_err-room_for_one-clause-contradiction : goal.returns-in_err-room_for_one-clause-contradiction
-returns-in_err-room_for_one-clause-contradiction c = grind (arith, common_steps)
-
-pub returns-in_err-room_for_one-clause-too_deep : goal.returns-in_err-room_for_one-clause-too_deep
-returns-in_err-room_for_one-clause-too_deep c = grind (arith, common_steps)
-
-pub returns-in_err-room_for_one-clause-why : goal.returns-in_err-room_for_one-clause-why
-returns-in_err-room_for_one-clause-why c = grind (arith, common_steps)
-
-pub returns-in_err-room_for_one-clause-memory : goal.returns-in_err-room_for_one-clause-memory
-returns-in_err-room_for_one-clause-memory c = grind (arith, common_steps)
-
-pub returns-in_err-room_for_one-clause-room : goal.returns-in_err-room_for_one-clause-room
-returns-in_err-room_for_one-clause-room c = grind (arith, common_steps)
-
-pub returns-in_err-room_for_one-clause-unchanged : goal.returns-in_err-room_for_one-clause-unchanged
-returns-in_err-room_for_one-clause-unchanged c = grind (arith, common_steps)
-
-pub returns-in_err-room_for_one-clause-taken : goal.returns-in_err-room_for_one-clause-taken
-returns-in_err-room_for_one-clause-taken c = grind (arith, common_steps)
-
-pub returns-in_err-room_for_one-clause-kept : goal.returns-in_err-room_for_one-clause-kept
-returns-in_err-room_for_one-clause-kept c = grind (arith, common_steps)
-
-pub returns-in_err-room_for_one-clause-seen : goal.returns-in_err-room_for_one-clause-seen
-returns-in_err-room_for_one-clause-seen c = grind (arith, common_steps)
-
-pub invariant_of-self-in_err-given : goal.invariant_of-self-in_err-given
-invariant_of-self-in_err-given c = grind (arith, common_steps)
-
-pub returns-in_err-given-clause-contradiction : goal.returns-in_err-given-clause-contradiction
-returns-in_err-given-clause-contradiction c = grind (arith, common_steps)
-
-pub returns-in_err-given-clause-too_deep : goal.returns-in_err-given-clause-too_deep
-returns-in_err-given-clause-too_deep c = grind (arith, common_steps)
-
-pub returns-in_err-given-clause-why : goal.returns-in_err-given-clause-why
-returns-in_err-given-clause-why c = grind (arith, common_steps)
-
-pub returns-in_err-given-clause-memory : goal.returns-in_err-given-clause-memory
-returns-in_err-given-clause-memory c = grind (arith, common_steps)
-
-pub returns-in_err-given-clause-room : goal.returns-in_err-given-clause-room
-returns-in_err-given-clause-room c = grind (arith, common_steps)
-
-pub returns-in_err-given-clause-unchanged : goal.returns-in_err-given-clause-unchanged
-returns-in_err-given-clause-unchanged c = grind (arith, common_steps)
-
-pub returns-in_err-given-clause-taken : goal.returns-in_err-given-clause-taken
-returns-in_err-given-clause-taken c = grind (arith, common_steps)
-
-pub returns-in_err-given-clause-kept : goal.returns-in_err-given-clause-kept
-returns-in_err-given-clause-kept c = grind (arith, common_steps)
-
-pub returns-in_err-given-clause-seen : goal.returns-in_err-given-clause-seen
-returns-in_err-given-clause-seen c = grind (arith, common_steps)
-
-pub invariant_of-self-in-Some : goal.invariant_of-self-in-Some
-invariant_of-self-in-Some c = grind (arith, common_steps)
-
-pub invariant_of-self-in_default : goal.invariant_of-self-in_default
-invariant_of-self-in_default c = grind (arith, common_steps)
-
-pub returns-in-Some-clause-contradiction : goal.returns-in-Some-clause-contradiction
-returns-in-Some-clause-contradiction c = grind (arith, common_steps)
-
-pub returns-in-Some-clause-too_deep : goal.returns-in-Some-clause-too_deep
-returns-in-Some-clause-too_deep c = grind (arith, common_steps)
-
-pub returns-in-Some-clause-why : goal.returns-in-Some-clause-why
-returns-in-Some-clause-why c = grind (arith, common_steps)
-
-pub returns-in-Some-clause-memory : goal.returns-in-Some-clause-memory
-returns-in-Some-clause-memory c = grind (arith, common_steps)
-
-pub returns-in-Some-clause-room : goal.returns-in-Some-clause-room
-returns-in-Some-clause-room c = grind (arith, common_steps)
-
-pub returns-in-Some-clause-unchanged : goal.returns-in-Some-clause-unchanged
-returns-in-Some-clause-unchanged c = grind (arith, common_steps)
-
-pub returns-in-Some-clause-seen : goal.returns-in-Some-clause-seen
-returns-in-Some-clause-seen c = grind (arith, common_steps)
-
-pub returns-in_default-clause-contradiction : goal.returns-in_default-clause-contradiction
-returns-in_default-clause-contradiction c = grind (arith, common_steps)
-
-pub returns-in_default-clause-too_deep : goal.returns-in_default-clause-too_deep
-returns-in_default-clause-too_deep c = grind (arith, common_steps)
-
-pub returns-in_default-clause-why : goal.returns-in_default-clause-why
-returns-in_default-clause-why c = grind (arith, common_steps)
-
-pub returns-in_default-clause-memory : goal.returns-in_default-clause-memory
-returns-in_default-clause-memory c = grind (arith, common_steps)
-
-pub returns-in_default-clause-room : goal.returns-in_default-clause-room
-returns-in_default-clause-room c = grind (arith, common_steps)
-
-pub returns-in_default-clause-unchanged : goal.returns-in_default-clause-unchanged
-returns-in_default-clause-unchanged c = grind (arith, common_steps)
-
-pub returns-in_default-clause-seen : goal.returns-in_default-clause-seen
-returns-in_default-clause-seen c = grind (arith, common_steps)

@@ -1,7 +1,7 @@
 -- Nothing is left where each list is empty.
-use Rattle.dob_node.proofs.Common.{arith, rules}
+use Rattle.dob_node.proofs.Common.{arith, rules, sends_of}
 use Rattle.std.proofs.lemmas.Grind.{common_steps}
-use Rattle.dob_node.proofs.Sends.{all_empty, empty_all}
+use Rattle.dob_node.proofs.Sends.{all_empty, all_sent, empty_all, sent_all}
 use Rattle.dob_node.proofs.node.Node.is_idle.Goals as goal
 
 pub returns-then-not-is_empty : goal.returns-then-not-is_empty
@@ -14,7 +14,7 @@ returns c =
       λ yes. record {
         expanded = search rules;
         applied = grind (arith, common_steps, c.if-not-is_empty.ensures);
-        sent = λ to. all_empty core.outboxes.items (rw c.deref.ensures.value at (c.are_empty.ensures.0 yes)) core.family core.nodes core.id to;
+        sent = λ to. all_empty (sends_of core.outboxes.items) (sent_all core.outboxes.items (rw c.deref.ensures.value at (c.are_empty.ensures.0 yes))) core.family core.nodes core.id to;
       },
-      λ idle. c.are_empty.ensures.1 (rw c.deref.ensures.value (empty_all core.outboxes.items core.family core.nodes core.id idle.sent)),
+      λ idle. c.are_empty.ensures.1 (rw c.deref.ensures.value (all_sent core.outboxes.items (empty_all (sends_of core.outboxes.items) core.family core.nodes core.id idle.sent))),
     )

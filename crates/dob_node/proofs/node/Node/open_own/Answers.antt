@@ -1,6 +1,6 @@
 -- The node of the share of its own openings, which are those of the family.
 use Rattle.dob_node.proofs.Common.{IfOk-weaker, IsNewShare, IsOpenedBy, IsOpenedOf}
-use Rattle.dob_lawful.proofs.Found.{some_openings, own_are}
+use Rattle.dob_history.proofs.Found.{some_openings, own_are}
 use Rattle.dob_node.proofs.node.Node.open_own.Goals.{In_ok-share}
 use Rattle.dob_node.proofs.node.Node.open_own.Goals as goal
 

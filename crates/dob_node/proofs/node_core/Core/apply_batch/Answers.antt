@@ -2,10 +2,10 @@
 use Rattle.dob_node.proofs.Common.{err_from_is_err_and, going, rules}
 use Rattle.dob_history.proofs.Kepts.{kept_own}
 use Rattle.dob_history.proofs.TakenLists.{kept_with_room, stops_first}
-use Rattle.dob_node.proofs.TakenLists.{applies_err, applies_ok, still_sound}
-use Rattle.dob_node.proofs.Common.{◌≡◌, ◌∙◌, All, HasItemEntries, Item, List, ap, length, map, subst, sym, ℕ}
+use Rattle.dob_node.proofs.TakenLists.{applies_err, applies_ok, none_before, still_sound}
+use Rattle.dob_node.proofs.Common.{◌≡◌, ◌∙◌, List, ap, length, sym, ℕ}
 use Rattle.std.proofs.lemmas.List.{length-map}
-use Rattle.dob_share.specs.Items.{items_in_all, items_of_parts, target_of}
+use Rattle.dob_share.specs.Items.{items_of_parts, target_of}
 use Rattle.dob_node.proofs.node_core.Core.apply_batch.Goals as goal
 use Rattle.dob_node.proofs.node_core.Core.apply_batch.Goals.{After-classes}
 
@@ -19,10 +19,6 @@ many c = ap length c.classes.ensures ∙ length-map c.args.batch.now.items targe
 pub take_parts-requires-clause-listed : goal.take_parts-requires-clause-listed
 take_parts-requires-clause-listed c = c.parts.ensures.total ∙ sym (many (goal.at.take_parts-requires-clause-listed c).After-classes)
 
-pub take_parts-requires-clause-entries : goal.take_parts-requires-clause-entries
-take_parts-requires-clause-entries c =
-    subst (λ (xs : List Item). All HasItemEntries xs) (sym (same_items (goal.at.take_parts-requires-clause-entries c).After-classes)) c.requires.entries
-
 pub returns-in_err-reserve-clause-step : goal.returns-in_err-reserve-clause-step
 returns-in_err-reserve-clause-step c =
     let given = err_from_is_err_and c.from_residual.result c.from_residual.ensures.1 in
@@ -30,14 +26,14 @@ returns-in_err-reserve-clause-step c =
       taken = tt;
       all = tt;
       stopped = stops_first c.args.batch.now.items c.args.self.now.share c.args.self.now.history c.len.ensures.batch.some;
-      before = search rules;
+      before = none_before {node = going c.args.self.now} c.args.batch.now.items c.len.ensures.batch.some c.reserve.ensures.same;
       memory = search rules;
     })
 
 pub take_parts-requires-clause-kept : goal.take_parts-requires-clause-kept
 take_parts-requires-clause-kept c =
     let node = c.args.self.now in
-    let kept = kept_with_room node.family node.nodes node.id node.share node.history c.reserve.new.self c.reserve.ensures.same c.requires.sound.kept in
+    let kept = kept_with_room node.family node.nodes node.id node.share node.history c.reserve.new.self c.reserve.ensures.same c.requires.kept in
     (node.family, kept_own kept)
 
 pub returns-in_err-take_parts-clause-step : goal.returns-in_err-take_parts-clause-step
@@ -51,8 +47,7 @@ returns-in_err-take_parts-clause-step c =
 pub returns-in_err-take_parts-clause-sound : goal.returns-in_err-take_parts-clause-sound
 returns-in_err-take_parts-clause-sound c =
     let before = c.in_err-take_parts.ensures.before in
-    still_sound {node = going c.args.self.now} c.reserve.ensures.same before.front c.requires.sound before.taken c.take_parts.ensures.kept
-    c.requires.sound.entries
+    still_sound {node = going c.args.self.now} c.reserve.ensures.same before.front c.requires before.taken c.take_parts.ensures.kept
 
 pub returns-clause-step : goal.returns-clause-step
 returns-clause-step c =
@@ -63,4 +58,4 @@ returns-clause-step c =
 pub returns-clause-sound : goal.returns-clause-sound
 returns-clause-sound c =
     let out = c.in_ok-take_parts.ensures in
-    still_sound {node = going c.args.self.now} c.reserve.ensures.same (items_of_parts c.parts.result.now c.classes.result.now) c.requires.sound out.taken out.kept c.requires.sound.entries
+    still_sound {node = going c.args.self.now} c.reserve.ensures.same (items_of_parts c.parts.result.now c.classes.result.now) c.requires out.taken out.kept

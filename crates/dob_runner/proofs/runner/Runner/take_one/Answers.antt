@@ -112,7 +112,6 @@ invariant_of-self-in-Ok-apply_batch g c =
       lawful = λ _. applied_batch r.family r.batch_size batch.from batch n c.apply_batch.new.self r.endpoint c.accept.new.self
           (unchanged_node r.family r.batch_size r.node n r.endpoint (r.lawful (inl c.requires)) c.reserve.ensures.step.unchanged c.reserve.ensures.keeps.sound)
           c.in-Some-accept.ensures.within (of_other c.in-Some.ensures c.in-Some-accept.ensures.held)
-          (fits_node c.in-Some.ensures c.in-Some-accept.ensures.held).entries
           c.in-Ok-apply_batch.ensures.step.taken c.in-Ok-apply_batch.ensures.keeps.sound c.accept.ensures.keeps.seat.node c.accept.ensures.keeps.seat.nodes
           (ap (λ (s : SeatState). s.black) taken.counted) (ap (λ v. v.items) c.accept.ensures.outlets)
           (λ k other. worked_else inlet c.accept.new.self.inlet batch more k other ∙ worked_again r.endpoint.inlet inlet c.receive.ensures.worked k)

@@ -2,7 +2,7 @@
 use Rattle.std.proofs.Common.{◌≡◌, ◌≢◌, ◌∙◌, List, [], ◌∷◌, map, rules, sym, subst}
 use Rattle.std.specs.List.{AllZip}
 use Rattle.dob_pieces.specs.declared.profile.Family.{Family}
-use Rattle.dob_board.specs.declared.board.Board.{Board}
+use Rattle.dob_board.specs.declared.board.Blackboard.{Blackboard}
 use Rattle.dob_board.specs.declared.halt.Halt.TheVariants.{Running}
 use Rattle.dob_runner.specs.declared.runner.Runner.{Runner}
 use Rattle.dob_run.specs.BuildEnd.{HaveStopped}
@@ -17,7 +17,7 @@ use Rattle.dob_tests_threads.proofs.run.turns.close_both.Goals as goal
 abbrev HasEnded : Runner → Runner → Type 0
 HasEnded old new = KeepsRunner old new × (new.endpoint.seat.stand.halt ≢ Running)
 
-module _ (family : Family) (board : Board) (one other first second : Runner) (opened : IsNewCrew family 2 1 1 board (one ∷ other ∷ []))
+module _ (family : Family) (board : Blackboard) (one other first second : Runner) (opened : IsNewCrew family 2 1 1 board (one ∷ other ∷ []))
     (keeps_one : KeepsRunner one first) (keeps_other : KeepsRunner other second) (ended : List Runner) (is : ended ≡ first ∷ second ∷ []) where
   still_crew : IsCrew board (map endpoint_of ended)
   still_crew = subst (λ (l : List Runner). IsCrew board (map endpoint_of l)) (sym is)

@@ -1,6 +1,7 @@
 -- a chick's steps, of which there are some on the far row alone, and a hen's
-use Rattle.dob_unmove.proofs.Common.{◌∙◌, ne_eqb, on_ok_weaker, row, Chick, Hen, RepresentsClass, Gathers, unsteps, setup_after}
-use Rattle.dob_unmove.proofs.Gathered.{gathers_append}
+use Rattle.dob_unmove.proofs.Common.{◌∙◌, ne_eqb, on_ok_weaker, row, Chick, Hen, unsteps, setup_after}
+use Rattle.dob_unmove.proofs.Runs.{takes_append}
+use Rattle.dob_unmove.specs.Ends.{Collects, Takes}
 use Rattle.dob_unmove.proofs.Standing.{ways_of_hen, no_growth}
 use Rattle.dob_unmove.proofs.predecessors.End.gather_hen.Goals as goal
 use Rattle.dob_unmove.proofs.predecessors.End.gather_hen.Goals.{then-row-eq3+in_ok-gather_steps, else-row-eq3}
@@ -9,8 +10,7 @@ pub returns : goal.returns
 returns c =
     let walk = c.args.self.now.walk.now in
     let to = c.args.self.now.to in
-    let growths : Gathers (RepresentsClass walk.classes.now.family) (setup_after walk) (unsteps (setup_after walk) Chick to)
-    c.args.found.now.items c.if-row-eq3.found.items
+    let growths : Collects walk (unsteps (setup_after walk) Chick to) c.args.found.now.items c.if-row-eq3.found.items
     = elim c.if-row-eq3.branch [
       | then-row-eq3+in_ok-gather_steps w ↦ rw w.found-is w.in_ok-gather_steps.ensures
       | else-row-eq3 w ↦
@@ -18,6 +18,5 @@ returns c =
     ] in
     rw (ways_of_hen (setup_after walk) to c.requires.stands)
     (on_ok_weaker c.gather_steps-2.result
-    (gathers_append (RepresentsClass walk.classes.now.family) (setup_after walk) (unsteps (setup_after walk) Chick to)
-    (unsteps (setup_after walk) Hen to) _ _ _ growths)
+    (takes_append (Takes walk) _ _ _ (unsteps (setup_after walk) Chick to) (unsteps (setup_after walk) Hen to) growths)
     c.gather_steps-2.ensures)

@@ -1,5 +1,6 @@
 -- The squares of the set are gone over from the first on, and the steps from the others are dead.
-use Rattle.dob_unmove.proofs.Common.{refl, RepresentsClass, unsteps, unsteps_from, may_come, setup_after}
+use Rattle.dob_unmove.specs.Ends.{Takes}
+use Rattle.dob_unmove.proofs.Common.{refl, unsteps, unsteps_from, may_come, setup_after}
 use Rattle.dob_unmove.proofs.Gathered.{gathered_start, passes_next, gathered_next, gathered_end}
 use Rattle.dob_unmove.proofs.Dead.{comes_dead}
 use Rattle.dob_unmove.proofs.predecessors.End.gather_steps.Goals as goal
@@ -9,7 +10,7 @@ loop-from-init c =
     let end = c.args.self.now in
     let after = setup_after end.walk.now in
     rw c.into_iter-from-iterator.ensures.into_iter_gives
-    (gathered_start (RepresentsClass end.walk.now.classes.now.family) after (may_come after end.walk.now.ways.now.threat.lion c.args.kind end.to)
+    (gathered_start (Takes end.walk.now) (may_come after end.walk.now.ways.now.threat.lion c.args.kind end.to)
     (unsteps_from after c.args.kind end.to) c.sources-from-items.result c.args.found.now.items
     (c.sources-from-items.ensures after c.requires.end.walk.ways_are))
 

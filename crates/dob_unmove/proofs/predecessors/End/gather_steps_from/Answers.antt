@@ -1,5 +1,6 @@
 -- The step without a catch, which may have been made, and then each catch.
-use Rattle.dob_unmove.proofs.Common.{None, rules, on_ok_weaker, RepresentsClass, Unstep, setup_after}
+use Rattle.dob_unmove.proofs.Common.{None, rules, on_ok_weaker, Unstep, setup_after}
+use Rattle.dob_unmove.specs.Ends.{Takes}
 use Rattle.dob_unmove.proofs.Dead.{comes_between, comes_step, home_before, steps_from}
 use Rattle.dob_unmove.proofs.predecessors.End.gather_steps_from.Goals as goal
 
@@ -14,7 +15,7 @@ returns c =
     let same = comes_between (setup_after end.walk.now) end.walk.now.ways.now.threat c.args.kind c.args.from end.to c.requires.stands c.requires.comes in
     on_ok_weaker c.gather_catch-4.result
     (λ last.
-    steps_from (RepresentsClass end.walk.now.classes.now.family) (setup_after end.walk.now) c.args.kind c.args.from end.to c.args.found.now.items _ _ _ _ _ same
+    steps_from (Takes end.walk.now) (setup_after end.walk.now) c.args.kind c.args.from end.to c.args.found.now.items _ _ _ _ _ same
     c.in_ok-gather_one.ensures c.in_ok-gather_catch.ensures c.in_ok-gather_catch-2.ensures c.in_ok-gather_catch-3.ensures last)
     c.gather_catch-4.ensures
 

@@ -1,5 +1,6 @@
 -- The squares of the set are gone over from the first on, and the ways of the others are dead.
-use Rattle.dob_unmove.proofs.Common.{refl, RepresentsClass, undoes, undoes_at, may_have_ended, setup_after}
+use Rattle.dob_unmove.proofs.Common.{refl, undoes, undoes_at, may_have_ended, setup_after}
+use Rattle.dob_unmove.specs.Ends.{Takes}
 use Rattle.dob_unmove.proofs.Gathered.{gathered_start, passes_next, gathered_next, gathered_end}
 use Rattle.dob_unmove.proofs.Dead.{ends_dead, calm_end, end_home, own_end}
 use Rattle.dob_unmove.proofs.Kept.{legal_turned}
@@ -11,7 +12,7 @@ loop-to-init c = λ w.
     let walk = c.args.self.now in
     let after = setup_after walk in
     rw c.into_iter-to-iterator.ensures.into_iter_gives
-    (gathered_start (RepresentsClass walk.classes.now.family) after (may_have_ended after walk.ways.now.threat w.ways_are.stays) (undoes_at after)
+    (gathered_start (Takes walk) (may_have_ended after walk.ways.now.threat w.ways_are.stays) (undoes_at after)
     walk.ways.now.ends c.args.found.now.items w.ways_are.ends_are)
 
 pub gather_all-requires : goal.gather_all-requires

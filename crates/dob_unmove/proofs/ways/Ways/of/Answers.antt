@@ -10,7 +10,7 @@ returns c = λ after legal are.
     let threat = c.of-threat.result in
     let twelve = turned_squares after legal in
     let lions = turned_lions after legal in
-    let both = c.and.ensures _ _ are.own_lion_is c.homes_of-homes.ensures in
+    let both = c.and.ensures _ _ are.own_lion_is c.homes.ensures in
     let calm = c.and-calm.ensures _ _ (c.own.ensures after are) c.calm_ends.ensures in
     let told : Told after threat c.and.result c.and-calm.result twelve lions both calm c.if-is_empty.ends
     = elim c.if-is_empty.branch [
@@ -25,7 +25,6 @@ returns c = λ after legal are.
       board_is = are;
       threat_is = c.of-threat.ensures after legal are;
       empty_are = c.empty.ensures after are;
-      homes_are = c.homes_of-homes.ensures;
       stays = told.0;
       home_is = told.1;
       ends_are = told.2;

@@ -1,6 +1,5 @@
 -- There is room for an item for each class.
-use Rattle.dob_update.proofs.Common.{◌++◌, ◌+◌, ◌≤◌, ◌∙◌, ◌≡◌, ap, arith, length, rules, subst, sym, BatchView, items_of_parts}
-use Rattle.dob_update.proofs.PartItems.{many_in_run}
+use Rattle.dob_update.proofs.Common.{◌++◌, ◌≡◌, ap, arith, length, subst, BatchView}
 use Rattle.dob_update.proofs.batch.Batch.list_items.Goals as goal
 
 pub push_parts-requires-clause-within : goal.push_parts-requires-clause-within

@@ -2,7 +2,7 @@
 use Rattle.std.specs.List.{All}
 use Rattle.std.specs.Prelude.{map}
 use Rattle.dob_share.specs.Items.{HasItem}
-use Rattle.dob_update.proofs.Common.{◌∙◌, ◌≡◌, ap, length, subst, sym, BatchView, count_for, items_in_all, items_of_parts, target_of, List, Part, ℕ}
+use Rattle.dob_update.proofs.Common.{◌∙◌, ◌≡◌, ap, length, subst, sym, BatchView, count_for, items_in_all, items_of_parts, target_of, List, PartView, ℕ}
 use Rattle.dob_share.proofs.PartItems.{targets_of_parts}
 use Rattle.dob_update.proofs.Runs.{parts_have}
 use Rattle.dob_update.proofs.batch.Batch.parts.Goals as goal
@@ -15,7 +15,7 @@ returns-clause-total c =
 pub returns-clause-some : goal.returns-clause-some
 returns-clause-some c =
     let b = c.self.inside in
-    subst (λ (ps : List Part). All HasItem ps) (sym c.deref.ensures.value)
+    subst (λ (ps : List PartView). All HasItem ps) (sym c.deref.ensures.value)
     (parts_have (count_for b.family b.n b.to) b.skip b.parts.items c.self.invariant.run.parts_fit)
 
 pub returns-clause-items : goal.returns-clause-items
@@ -24,5 +24,5 @@ returns-clause-items c =
     let items = items_of_parts inside.parts.items inside.classes.items in
     let again = targets_of_parts inside.parts.items inside.classes.items c.self.invariant.counted in
     subst (λ (b : BatchView). items_of_parts c.deref.result.now (map target_of b.items) ≡ b.items) c.self.view_is
-    (ap (λ (ps : List Part). items_of_parts ps (map target_of items)) c.deref.ensures.value
+    (ap (λ (ps : List PartView). items_of_parts ps (map target_of items)) c.deref.ensures.value
     ∙ ap (λ (xs : List ℕ). items_of_parts inside.parts.items xs) again)

@@ -1,12 +1,12 @@
 -- The front of a run is a run.
-use Rattle.dob_update.proofs.Common.{◌∙◌, ◌≡◌, ◌≤◌, ap, arith, length, length-take-le, refl, subst, sym, take, AreItemsRun, BatchView, IsFront, IsItemRun, Item, List, Part, front}
+use Rattle.dob_update.proofs.Common.{◌∙◌, ◌≡◌, ◌≤◌, ap, arith, length, length-take-le, refl, subst, sym, take, BatchView, IsFront, IsItemRun, Item, List, PartView, front}
 use Rattle.dob_update.proofs.Common.{items_in_all, items_of_parts, settlements_of, ℕ}
 use Rattle.dob_update.proofs.PartItems.{items_in_front, many_in_run}
 use Rattle.dob_update.proofs.Runs.{run_shortened, total-front, IsFront-from_parts}
 use Rattle.dob_update.proofs.batch.Batch.shorten.Goals as goal
 
 -- the items that are left
-left : (k : ℕ) (parts : List Part) (classes : List ℕ) → items_in_all parts ≡ length classes → k ≤ length (items_of_parts parts classes) →
+left : (k : ℕ) (parts : List PartView) (classes : List ℕ) → items_in_all parts ≡ length classes → k ≤ length (items_of_parts parts classes) →
     length (items_of_parts parts classes) ≡ length classes → items_of_parts (front k parts) (take k classes) ≡ take k (items_of_parts parts classes)
 left k parts classes all within many = items_in_front k parts classes (omega (arith, all)) (omega (arith, all, within, many))
 
@@ -36,5 +36,5 @@ returns c =
     let new : BatchView = record view { settlements = settlements_of parts; items = items_of_parts parts classes } in
     subst (λ (b : BatchView). IsFront b c.args.k new) c.self.view_is
     (IsFront-from_parts view old.parts.items parts c.args.k (items_of_parts parts classes) refl c.keep_front.ensures
-    (ap (λ (ps : List Part). items_of_parts ps classes) c.keep_front.ensures ∙ ap (λ (xs : List ℕ). items_of_parts (front c.args.k old.parts.items) xs) c.truncate.ensures.items
+    (ap (λ (ps : List PartView). items_of_parts ps classes) c.keep_front.ensures ∙ ap (λ (xs : List ℕ). items_of_parts (front c.args.k old.parts.items) xs) c.truncate.ensures.items
     ∙ left c.args.k old.parts.items old.classes.items c.self.invariant.counted within (many_in_run c.self.invariant)))

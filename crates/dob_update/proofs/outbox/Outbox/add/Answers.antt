@@ -1,25 +1,32 @@
 -- One settlement more, with its items.
-use Rattle.dob_update.proofs.Common.{◌++◌, ◌∙◌, ◌∷◌, ◌≡◌, List, [], ap, length, rules, subst, sym, map, predecessors, OutboxView, added, items_of, target_of}
-use Rattle.dob_update.proofs.Common.{Part}
-use Rattle.dob_update.proofs.PartItems.{IsGrown, is_grown}
+use Rattle.dob_update.proofs.Common.{◌++◌, ◌<◌, ◌==◌, ◌^◌, ◌∙◌, ◌≡◌, Item, List, OutboxState, PartView, added, ap, arith, filter, item_for, items_of, length, length-map, map, owner_of}
+use Rattle.dob_update.proofs.Common.{predecessors, refl, rules, subst, sym, target_of, with_part, ℕ}
+use Rattle.dob_share.proofs.PartItems.{targets_of_items}
+use Rattle.dob_update.proofs.Grown.{IsGrown, is_grown}
 use Rattle.dob_update.proofs.outbox.Outbox.add.Goals as goal
-use Rattle.dob_update.proofs.outbox.Outbox.add.Goals.{After-push_back_reserved}
+use Rattle.dob_update.proofs.outbox.Outbox.add.Goals.{After-add}
 
-grown : (c : After-push_back_reserved) → IsGrown c.self.inside.family c.self.inside.nodes c.self.inside.to c.self.inside.skip c.self.inside.parts.items
-    c.push_back_reserved.new.self.items c.self.inside.classes.items c.push_classes.new.queue.items c.args.settlement c.args.items.now
+grown : (c : After-add) → IsGrown c.self.inside.family c.self.inside.nodes c.self.inside.to c.self.inside.skip c.self.inside.queue.parts
+    c.add.new.self.parts c.self.inside.queue.classes c.add.new.self.classes c.args.settlement c.args.items.now
 grown c =
     let old = c.self.inside in
-    let more = c.args.items.now in
-    is_grown old.family old.nodes old.to old.skip old.parts.items c.push_back_reserved.new.self.items old.classes.items c.push_classes.new.queue.items
-    c.args.settlement more c.self.invariant (search rules) (search rules)
-    (subst (λ (o : OutboxView). more ≡ items_of (predecessors o.family) o.n o.to c.args.settlement) (sym c.self.view_is) c.requires)
-    (c.push_back_reserved.ensures.items
-    ∙ ap (λ (ps : List Part). ps ++ (record { settlement = c.args.settlement; items = length more }) ∷ []) c.reserve.ensures.items)
-    (c.push_classes.ensures ∙ ap (λ xs. xs ++ map target_of more) c.reserve-2.ensures.items)
+    let s = c.args.settlement in
+    let items = c.args.items.now in
+    let owned = filter (λ class. owner_of old.nodes class == old.to) (predecessors old.family s.class) in
+    let are : items ≡ map (item_for s) owned
+    = subst (λ (o : OutboxState). items ≡ items_of (predecessors o.sends.family) o.sends.n o.sends.to s) (sym c.self.view_is) c.requires.items in
+    let many : length items ≡ length owned = ap length are ∙ length-map owned (item_for s) in
+    let low : length items < 2 ^ 64 = search rules in
+    subst (λ (xs : List Item). IsGrown old.family old.nodes old.to old.skip old.queue.parts c.add.new.self.parts old.queue.classes c.add.new.self.classes s xs) (sym are)
+    (is_grown old.family old.nodes old.to old.skip old.queue.parts c.add.new.self.parts old.queue.classes c.add.new.self.classes s owned c.self.invariant
+    (omega (arith, low, many)) refl
+    (c.add.ensures.parts ∙ ap (λ (ps : List PartView). with_part ps s (length items)) c.reserve.ensures.parts ∙ ap (λ (k : ℕ). with_part old.queue.parts s k) many)
+    (c.add.ensures.classes ∙ ap (λ (xs : List ℕ). xs ++ map target_of items) c.reserve.ensures.classes
+    ∙ ap (λ (xs : List ℕ). old.queue.classes ++ xs) (ap (map target_of) are ∙ targets_of_items s owned)))
 
 pub invariant_of-self-2 : goal.invariant_of-self-2
-invariant_of-self-2 c = (grown (goal.at.invariant_of-self-2 c).After-push_back_reserved).listed
+invariant_of-self-2 c = (grown (goal.at.invariant_of-self-2 c).After-add).listed
 
 pub returns-clause-ok : goal.returns-clause-ok
-returns-clause-ok c = (grown (goal.at.returns-clause-ok c).After-push_back_reserved).is_added c.self.inside.from c.self.inside.next
-    ∙ ap (λ (o : OutboxView). added o c.args.settlement c.args.items.now) c.self.view_is
+returns-clause-ok c = (grown (goal.at.returns-clause-ok c).After-add).is_added c.self.inside.from c.self.inside.next
+    ∙ ap (λ (o : OutboxState). added o.sends c.args.settlement c.args.items.now) c.self.view_is

@@ -5,10 +5,10 @@ use Rattle.dob_world.proofs.Promise.{places_start, falls_shown, lawful_shown, li
 use Rattle.dob_world.proofs.Stood.{cuts_start}
 use Rattle.std.proofs.lemmas.Result.{err_from_is_err_and}
 use Rattle.dob_pieces.specs.declared.profile.Family.{Family}
-use Rattle.dob_lawful.specs.Openings.{AreOpeningsBelow}
+use Rattle.dob_history.specs.Openings.{AreOpeningsBelow}
 use Rattle.dob_world.specs.Results.{HasSettingFault}
 use Rattle.dob_world.specs.Worlds.{setting_by}
-use Rattle.dob_stops.specs.declared.fault.Fault.TheVariants as fault
+use Rattle.dob_share.specs.declared.build_fault.BuildFault.TheVariants as fault
 use Rattle.dob_world.proofs.world.World.open.Goals as goal
 
 -- memory was refused, and all numbers are in their limits

@@ -3,7 +3,7 @@ use Rattle.dob_world.proofs.Common.{◌<◌, ◌∙◌, ◌≡◌, List, ap, con
 use Rattle.dob_world.proofs.Common.{HasValueNow, IsOwn, cell_at, status_at, below_owner, value_shown, Node, part, nodes_shown, world_shown, IsNodeOf, Stand}
 use Rattle.dob_world.proofs.Common.{Nodes, Setting, value_in, Detector, Lane}
 use Rattle.dob_distance.specs.declared.value.Value.{Value}
-use Rattle.dob_lawful.proofs.Kept.{last_now-entry}
+use Rattle.dob_history.proofs.Kept.{last_now-entry}
 use Rattle.dob_world.proofs.InPlace.{NodeAt, kept_of, node_there}
 use Rattle.dob_world.proofs.world.World.value_of.Goals as goal
 use Rattle.dob_world.proofs.world.World.value_of.Goals.{After-index}

@@ -14,4 +14,4 @@ pub returns : goal.returns
 returns c =
     let listed = c.args.self.now in
     let within = within_ranks listed.family listed.ranks.now listed.plies.now c.args.place c.requires.within in
-    rw (← c.requires.stands.0, c.position_at.ensures, c.plies_at.ensures) (stands_for listed.family listed.ranks.now listed.plies.now c.requires.stands.1 c.args.place within)
+    rw (← c.requires.stands.0, c.of-position.ensures, c.position_at.ensures, c.plies_at.ensures) (stands_for listed.family listed.ranks.now listed.plies.now c.requires.stands.1 c.args.place within)

@@ -1,7 +1,0 @@
--- The lines of the distances so far.
-use Rattle.std.proofs.Common.{◌≡◌, string_bytes}
-use Rattle.dob_counts.specs.Reaches.{level_lines}
-use Rattle.dob_counts.proofs.reaches.level_lines.Given as goal
-
-abbrev pub invariant-loop-distance : goal.invariant-loop-distance
-invariant-loop-distance l = string_bytes l.lines ≡ level_lines l.levels l.distance

@@ -1,2 +1,0 @@
-pub mod Stats
-pub mod Reaches

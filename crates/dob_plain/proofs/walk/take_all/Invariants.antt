@@ -1,8 +1,0 @@
--- The ways that end on the squares below the index are taken.
-use Rattle.dob_pieces.specs.Lists.{each_below}
-use Rattle.dob_unmove.specs.Walks.{TakesAll, undoes_at}
-use Rattle.dob_plain.proofs.walk.take_all.Given as goal
-
-abbrev pub invariant-loop-index : goal.invariant-loop-index
-invariant-loop-index g l =
-    TakesAll (g.T.Taker.takes l.after l.taker) l.initial.found.items (each_below (undoes_at l.after) l.index) l.found.items

@@ -1,6 +1,0 @@
--- One class more is kept, or left out.
-use Rattle.dob_update.proofs.Common.{arith, common_steps}
-use Rattle.dob_update.proofs.outbox.push_owned.Goals as goal
-
-pub loop-class-preserved : goal.loop-class-preserved
-loop-class-preserved c = grind (arith, common_steps)
