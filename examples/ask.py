@@ -2,7 +2,7 @@
 """Asks a table, with nothing built: python3 examples/ask.py FILE [POSITION ..]
 
 Prints the value of each position, each of its moves with its value, best first, and best play to the end. Without a POSITION it asks the start of the whole
-game. Plain Python answers, unproved; where `libdobutsu.so` lies beside the package it is the proved library.
+game. Pure Python answers, unproved; where `libdobutsu.so` lies beside the package it is the proved library.
 """
 import pathlib
 import sys

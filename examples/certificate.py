@@ -1,5 +1,5 @@
 #!/usr/bin/env python3
-"""Checks what a certificate claims, by plain Python: python3 examples/certificate.py FILE
+"""Checks what a certificate claims, by pure Python: python3 examples/certificate.py FILE
 
 Prints the claim where each entry of the file is shown by its moves, which takes a minute or two for `testdata/222_A.cert`; else the fault.
 """
@@ -12,7 +12,7 @@ from dobutsu import Certificate, Fault  # noqa: E402
 if len(sys.argv) != 2:
     sys.exit(__doc__.strip())
 try:
-    certificate = Certificate(sys.argv[1], "")  # "": by plain Python, not by the library
+    certificate = Certificate(sys.argv[1], "")  # "": by pure Python, not by the library
     certificate.verify()
     print(certificate)
 except Fault as fault:

@@ -1,5 +1,6 @@
 /* Looks for the value of positions by alpha-beta, DEPTH plies deep, and then asks the table of FILE: plain_search DEPTH FILE < POSITIONS. So it prints what
-   `dobutsu probe --each` does. Build: cc examples/plain_search.c plain/dobutsu_plain.c -Iplain -o plain_search */
+   `dobutsu probe --each` does.
+   Build: cc examples/plain_search.c plain/dobutsu_plain.c plain/dobutsu_plain_classes.c -Iplain -o plain_search */
 #include <stdio.h>
 #include <stdlib.h>
 #include <string.h>
@@ -36,7 +37,7 @@ static int search(const PlainTable *table, const PlainPosition *position, int de
         return status == PLAIN_CAUGHT ? SURE - 1 : -SURE;
     for (number = 0; number < count && alpha < beta; number++) {
         int score;
-        plain_play(position, table->profile, &moves[number], &after);
+        plain_play_listed(position, &moves[number], &after);
         score = across(search(table, &after, depth - 1, across(beta, -1), across(alpha, -1)), 1);
         alpha = score > alpha ? score : alpha;
     }

@@ -51,18 +51,26 @@ if command -v script >"$work/out"; then
     if grep -q $'\r[0-9]* s, [0-9]* %.*\033\\[K' "$work/shown" && grep -q 'classes 765360' "$work/out"; then good=yes; else good=no; fi
     note "lines in place on a terminal, where standard output is a file" "$good"
 fi
-# So does a check where it is watched, and nothing where it isn't.
+# So does a check where it is watched, and nothing where it isn't. It is stopped once it has worked for half a second of a processor's time, some fifth
+# of what a check of 112 takes, so that it is neither at its start nor at its end, on a busy machine as on a fast one.
+works() { # PID: waits until it has worked for that long; no where it has ended before
+    local told
+    while read -r -a told <"/proc/$1/stat" && [ "${told[2]}" != Z ]; do
+        [ "$((told[13] + told[14]))" -lt "$(($(getconf CLK_TCK) / 2))" ] || return 0
+        sleep 0.01
+    done 2>"$work/gone"
+    return 1
+}
+expect 0 '~^classes 6373080$' '' build --set 112 --out "$work/longer.db"
 for given in '' --progress; do
-    "$program" check --db "$other" $given >"$work/out" 2>"$work/err" &
+    "$program" check --db "$work/longer.db" $given >"$work/out" 2>"$work/err" &
     checking=$!
-    sleep 0.1
-    kill -STOP "$checking"
-    sleep 1.2
-    kill -CONT "$checking"
-    wait "$checking" && good=yes || good=no
+    if works "$checking" && kill -STOP "$checking" && sleep 1.2 && kill -CONT "$checking"; then good=yes; else good=no; fi
+    wait "$checking" || good=no
     if [ -n "$given" ]; then grep -q ' s, [0-9]* %' "$work/err" || good=no; elif [ -s "$work/err" ]; then good=no; fi
-    note "a check of 111 that is stopped for a second${given:+, with }$given: $(head -c 80 "$work/err")" "$good"
+    note "a check of 112 that is stopped for a second${given:+, with }$given: $(head -c 80 "$work/err")" "$good"
 done
+rm -f "$work/longer.db"
 # Without --nodes a build takes a node a processor, 16 at most: of its threads, counted over and over, there are mostly one a node and the main one.
 for processors in 0 0,1 ''; do
     run=()
@@ -134,6 +142,14 @@ cp testdata/lions_alone.db "$work/kept.db"
 if [ "$status" = 3 ] && holds "$work/err" "$(caused "$work/kept.db" 'File too large (os error 27)')" && cmp -s "$work/kept.db" testdata/lions_alone.db \
     && [ ! -e "$work/kept.db.part" ]; then good=yes; else good=no; fi
 note "a build whose file may not grow leaves the one that was there, and no part: status $status, $(tail -1 "$work/err")" "$good"
+# where that isn't ignored the system ends the program by it, as by any other kill: its part stays until the next build
+(ulimit -f 0; exec "$program" build --set 000 --nodes 2 --out "$work/limited.db" 2>&1) | cat >"$work/out"
+status="${PIPESTATUS[0]}"
+if [ "$status" = 153 ] && [ -e "$work/limited.db.part" ] && [ ! -e "$work/limited.db" ]; then good=yes; else good=no; fi
+note "a build that the system ends since its file may not grow: status $status" "$good"
+expect 0 '~^classes 54$' '' build --set 000 --nodes 2 --out "$work/limited.db"
+if cmp -s "$work/limited.db" "$lions_2" && [ ! -e "$work/limited.db.part" ]; then good=yes; else good=no; fi
+note "and the next build" "$good"
 expect 0 '~^classes 54$' '' build --set 000 --nodes 2 --out /dev/null
 # a rebuilt file keeps its mode, whatever the shell would give it, and a new one has that
 same=yes
@@ -164,12 +180,13 @@ if command -v strace >/dev/null && strace -qq -o "$work/calls" true 2>/dev/null;
 else
     echo 'Not run: the mode with which a part is opened, since no strace is here.'
 fi
-# standard streams that are closed lead nowhere: no file that is opened takes their numbers
+# standard streams that are closed lead nowhere: no file that is opened takes their numbers, and counts that can't be printed are E24
 same=yes
 "$program" build --set 000 --nodes 2 --progress --out "$work/silent.db" 2>&- >"$work/out" || same=no
 cmp -s "$work/silent.db" testdata/lions_alone_2.db && grep -qx 'classes 54' "$work/out" || same=no
 rm -f "$work/silent.db"
-"$program" build --set 000 --nodes 2 --out "$work/silent.db" <&- >&- 2>&- || same=no
+"$program" build --set 000 --nodes 2 --out "$work/silent.db" <&- >&- 2>&-
+[ "$?" = 3 ] || same=no
 cmp -s "$work/silent.db" testdata/lions_alone_2.db || same=no
 "$program" look --each --db "$lions" <&- >"$work/out" 2>"$work/err" || same=no
 [ ! -s "$work/out" ] && [ ! -s "$work/err" ] || same=no

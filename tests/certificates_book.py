@@ -8,22 +8,22 @@ import random
 import subprocess
 import sys
 sys.path.insert(0, "python")
-from dobutsu import plain
+from dobutsu import pure
 
 program, path, games, *starts = sys.argv[1:]
-certificate, chance = plain.open_certificate(path), random.Random(7)
+certificate, chance = pure.open_certificate(path), random.Random(7)
 
 
 def after(position, text):
     """The position after the move, or nothing where it catches the lion."""
     status, moves = certificate.asked(position)
-    move = next(it for it in moves if plain.move_text(position, it) == text)
-    return None if status == "caught" else plain.apply(position, move)
+    move = next(it for it in moves if pure.move_text(position, it) == text)
+    return None if status == "caught" else pure.apply(position, move)
 
 
 def lasting(position):
     """How long a position lasts by the certificate; of equal ones chance says which."""
-    return certificate.reply(plain.write_position(position))[1], chance.random()
+    return certificate.reply(pure.write_position(position))[1], chance.random()
 
 
 def play(text, is_long, is_asked):
@@ -36,14 +36,14 @@ def play(text, is_long, is_asked):
         if is_asked:
             printed = subprocess.run([program, "reply", "--cert", path, text], capture_output=True, text=True, check=True).stdout
             assert printed == f"{move} win within {plies}\n", (text, printed, move, plies)
-        position = after(plain.read_position(text), move)
+        position = after(pure.read_position(text), move)
         assert (position is None or certificate.has_lost(position)) == (plies == 1), (text, move, plies)
         if plies == 1:
             return told
         status, answers = certificate.asked(position)
         assert status == "open", (text, move, status)
-        outcomes = [plain.apply(position, answer) for answer in answers]
-        text = plain.write_position(max(outcomes, key=lasting) if is_long else chance.choice(outcomes))
+        outcomes = [pure.apply(position, answer) for answer in answers]
+        text = pure.write_position(max(outcomes, key=lasting) if is_long else chance.choice(outcomes))
 
 
 for start in starts:

@@ -8,7 +8,7 @@ import pathlib
 import subprocess
 import sys
 sys.path.insert(0, "python")
-from dobutsu import plain
+from dobutsu import pure
 
 
 @functools.cache
@@ -17,7 +17,7 @@ def value_of(program, profile, text):
 
 
 def holds(program, certificate):
-    text = plain.write_position(certificate.position())
+    text = pure.write_position(certificate.position())
     kind, _, plies = value_of(program, certificate.profile, text).partition(" ")
     if certificate.claim.endswith(" within"):
         return certificate.claim == kind + " within" and int(plies) <= certificate.plies
@@ -33,10 +33,10 @@ def proved(certificate):
 def verdict(data):
     """The line of a certificate that holds, with it, or the fault."""
     try:
-        certificate = plain.Certificate(data)
+        certificate = pure.Certificate(data)
         certificate.verify()
         return proved(certificate), certificate
-    except plain.Fault as wrong:
+    except pure.Fault as wrong:
         return f"dobutsu: {wrong}", None
 
 

@@ -1,4 +1,4 @@
-"""Small certificates made in plain Python from tables of the program: certificates_make.py FOLDER MOST STEP FILE..
+"""Small certificates made in pure Python from tables of the program: certificates_make.py FOLDER MOST STEP FILE..
 
 Of every STEPth class and of some draws, for each claim that can be made, one of at most MOST bytes is written into the folder. The lines that they claim are
 printed.
@@ -9,9 +9,9 @@ import struct
 import sys
 sys.path[:0] = ["python", "tools"]
 from certificates import certificate_bytes
-from dobutsu import plain
+from dobutsu import pure
 
-EVER = plain.EVER
+EVER = pure.EVER
 
 
 def written(db, root, kind, plies, lost, held):
@@ -27,13 +27,13 @@ class Maker:
 
     def known(self, position):
         """The class, and the plies of its loss, of its win, or neither."""
-        number = plain.class_number(self.db.profile, position)
-        kind, _, plies = plain.value_text(self.db.record_at(number)).partition(" ")
+        number = pure.class_number(self.db.profile, position)
+        kind, _, plies = pure.value_text(self.db.record_at(number)).partition(" ")
         return number, kind, int(plies or 0)
 
     def outcomes(self, position):
-        status, moves = plain.status_and_moves(self.db.profile, position)
-        return status, [plain.apply(position, move) for move in moves] if status == "open" else []
+        status, moves = pure.status_and_moves(self.db.profile, position)
+        return status, [pure.apply(position, move) for move in moves] if status == "open" else []
 
     def lose(self, position):
         """Lists a lost position, and the replies to each of its moves."""
@@ -75,7 +75,7 @@ class Maker:
 
 def make(db, number, is_exact):
     """The certificate of that class, and what it claims."""
-    position, maker = plain.position_at(db.profile, db.pieces, number), Maker(db)
+    position, maker = pure.position_at(db.profile, db.pieces, number), Maker(db)
     _number, kind, plies = maker.known(position)
     if kind == "draw":
         maker.hold(position, EVER)
@@ -89,14 +89,14 @@ def make(db, number, is_exact):
             maker.be_safe(position, plies - 2)
         data = written(db, number, {"win": 1, "loss": 2}[kind] + (0 if is_exact else 2), plies, maker.lost, maker.held)
     claim = kind if kind == "draw" else f"{kind} {'' if is_exact else 'within '}{plies}"
-    return data, f"{plain.write_position(position)} {claim}"
+    return data, f"{pure.write_position(position)} {claim}"
 
 
 if __name__ == "__main__":
     folder = pathlib.Path(sys.argv[1])
     most, step = int(sys.argv[2]), int(sys.argv[3])
     for path in sys.argv[4:]:
-        db = plain.open_db(path)
+        db = pure.open_db(path)
         draws = [number for number in range(db.count) if db.record_at(number) == 0]
         for number, is_exact in itertools.product(sorted({*range(7, db.count, step), *draws[:: 1 + len(draws) // 12]}), (False, True)):
             data, line = make(db, number, is_exact)

@@ -7,7 +7,7 @@ import pathlib
 import subprocess
 import sys
 sys.path.insert(0, "python")
-from dobutsu import plain
+from dobutsu import pure
 
 
 def lines(*words):
@@ -16,30 +16,30 @@ def lines(*words):
 
 def best_moves(certificate, text):
     """The moves that win within the fewest plies by the lost classes, in their order."""
-    position = plain.read_position(text)
+    position = pure.read_position(text)
     status, moves = certificate.asked(position)
     if status == "caught":
-        return [plain.move_text(position, moves[0])]
+        return [pure.move_text(position, moves[0])]
     plies = {}
     for move in moves:
-        after = plain.apply(position, move)
-        plies[plain.move_text(position, move)] = 0 if certificate.has_lost(after) else certificate.lost_plies.get(after, plain.EVER)
+        after = pure.apply(position, move)
+        plies[pure.move_text(position, move)] = 0 if certificate.has_lost(after) else certificate.lost_plies.get(after, pure.EVER)
     return [move for move, least in plies.items() if least == min(plies.values())]
 
 
 def lost_outcomes(db, position, plies):
     """The classes to which moves lead and that are lost in so many plies, in their order."""
-    outcomes = [plain.apply(position, move) for move in plain.status_and_moves(db.profile, position)[1]]
-    numbers = {plain.class_number(db.profile, outcome) for outcome in outcomes}
-    return sorted(number for number in numbers if plain.value_text(db.record_at(number)) == f"loss {plies}")
+    outcomes = [pure.apply(position, move) for move in pure.status_and_moves(db.profile, position)[1]]
+    numbers = {pure.class_number(db.profile, outcome) for outcome in outcomes}
+    return sorted(number for number in numbers if pure.value_text(db.record_at(number)) == f"loss {plies}")
 
 
 def chosen(db, kind, numbers, count):
     """So many of the classes, spread over them; the last of the won ones is won in 3 by moves to several classes."""
     spread = numbers[:: max(1, len(numbers) // count)][:count]
     if kind == "win":
-        won = (number for number in numbers if plain.value_text(db.record_at(number)) == "win 3")
-        spread[-1] = next(number for number in won if len(lost_outcomes(db, plain.position_at(db.profile, db.pieces, number), 2)) > 1)
+        won = (number for number in numbers if pure.value_text(db.record_at(number)) == "win 3")
+        spread[-1] = next(number for number in won if len(lost_outcomes(db, pure.position_at(db.profile, db.pieces, number), 2)) > 1)
     return spread
 
 
@@ -56,16 +56,16 @@ certificate = folder / "one.cert"
 kinds = collections.Counter()
 equal = 0
 for path in sys.argv[3:]:
-    db = plain.open_db(path)
+    db = pure.open_db(path)
     rules = " by rules B" if db.profile == "B" else ""
     by_kind = collections.defaultdict(list)
     for number in range(db.count):
-        by_kind[plain.value_text(db.record_at(number)).split()[0]].append(number)
+        by_kind[pure.value_text(db.record_at(number)).split()[0]].append(number)
     for kind, count in ("win", 9), ("loss", 9), ("draw", 7):
         found = by_kind[kind]
         for number in chosen(db, kind, found, count):
-            position = plain.position_at(db.profile, db.pieces, number)
-            text = plain.write_position(position)
+            position = pure.position_at(db.profile, db.pieces, number)
+            text = pure.write_position(position)
             (value,) = lines(program, "probe", "--db", path, text)
             for exact in (), ("--exact",):
                 made = lines(program, "certify", "--db", path, "--out", certificate, *exact, text)
@@ -76,13 +76,13 @@ for path in sys.argv[3:]:
                 plies = int(value.partition(" ")[2] or 0)
                 if value.startswith("win") and plies > 1:
                     # of equal classes the first
-                    assert plain.open_certificate(certificate).lost.get(lost_outcomes(db, position, plies - 1)[0]) == plies - 1, text
+                    assert pure.open_certificate(certificate).lost.get(lost_outcomes(db, position, plies - 1)[0]) == plies - 1, text
                 if value.startswith("win"):
                     (reply,) = lines(program, "reply", "--cert", certificate, text)
                     move, _, plies = reply.partition(" win within ")
                     assert 1 <= int(plies) <= int(value.split()[1]), (text, reply)
                     assert any(line.split()[:2] == [move, "win"] for line in lines(program, "moves", "--db", path, text)), (text, reply)
-                    best = best_moves(plain.open_certificate(certificate), text)
+                    best = best_moves(pure.open_certificate(certificate), text)
                     assert move == best[0], (text, reply, best)
                     equal += len(best) > 1
                 if value.startswith("loss"):

@@ -35,6 +35,14 @@ note "rt fmt: $(head -1 "$work/out")" "$good"
 good=no
 if tools/results-page --check 2>"$work/out"; then good=yes; fi
 note "tools/results-page --check: $(head -1 "$work/out")" "$good"
+# The longest wins that a game can reach are reached by the moves beside them.
+good=no
+if python3 tests/docs_ways.py >"$work/out" 2>&1; then good=yes; fi
+note "the ways of docs/results_longest.csv: $(tail -1 "$work/out")" "$good"
+# The version is one wherever it stands.
+good=no
+if tools/release --check >"$work/out" 2>&1; then good=yes; fi
+note "tools/release --check: $(tail -1 "$work/out")" "$good"
 # A crate's calls with their docs and the clauses of their contracts.
 good=no
 if tools/calls dob_moves apply >"$work/out" && grep -q 'HasOutcome' "$work/out" && grep -q 'The position that a move leads to' "$work/out"; then good=yes; fi

@@ -27,8 +27,20 @@ if [ -c /dev/full ]; then
     done
 fi
 
-# At a terminal the cause stands below E24 alone, and in one line: a line feed in a name is told as \n.
+# So has one that is closed, and the answer isn't lost without a word.
+status=0
+./dobutsu value "$position" >&- 2>"$work/err" || status=$?
+if [ "$status" = 3 ] && holds "$work/err" "$io_line"; then good=yes; else good=no; fi
+note "./dobutsu value >&-: status $status, $(head -c 80 "$work/err")" "$good"
+status=0
+"$program" check --db "$lions" <&- >"$work/out" 2>&- || status=$?
+if [ "$status" = 0 ] && holds "$work/out" consistent; then good=yes; else good=no; fi
+note "./dobutsu check <&- 2>&-: status $status" "$good"
+
+# At a terminal the cause stands below E24 alone, and in one line: a line feed in a name is told as \n, any other control character by its bytes.
 fails_at "$work/a\\nb.db" "$gone" stats --db "$work/a"$'\n'b.db
+shown='\x1b[31m\x0d\x07\x7f\xc2\x85\xe2\x80\xae\xe2\x81\xa7はb.db'
+fails_at "$work/$shown" "$gone" stats --db "$work/"$'\e[31m\r\a\x7f\u0085\u202e\u2067は'b.db
 for words in '1|E1 Shape|value|x' '1|E15 Truncated|stats|--db|/dev/null'; do
     IFS='|' read -r -a given <<<"$words"
     status=0
@@ -60,11 +72,13 @@ for case in 'empty|E15 Truncated' 'cut|E15 Truncated' 'at_0|E16 Magic' 'at_11|E1
     expect 1 '' "dobutsu: $fault" line --db "$work/$name.db" '..l/.../.../L.. C -'
 done
 
-# Files of lions alone in which one position has a wrong value, and the digest that then belongs there: what they say, or the class whose value doesn't follow.
+# Files of lions alone in which one position has a wrong value, and the digest that then belongs there, here of the second format: what they say, or the class
+# whose value doesn't follow.
+base="$lions_2"
 wrongly() {
     local text="$1" code="$2" told="$3"
     shift 3
-    python3 tests/certify_wrong_table.py "$lions_2" "$work/wrong.db" "$text" "$code"
+    python3 tests/certify_wrong_table.py "$base" "$work/wrong.db" "$text" "$code"
     if [ "${told#E21}" = "$told" ]; then expect 0 "$told" '' "$@" --db "$work/wrong.db"; else expect 1 '' "dobutsu: $told" "$@" --db "$work/wrong.db"; fi
 }
 # a line goes by what the file says, wrong or not; but a lion that can be caught is
@@ -83,6 +97,17 @@ for code in 0 65535; do wrongly '.../.l./.../.L. - -' "$code" 'E21 Inconsistent 
 wrongly "$long" 8 'E21 Inconsistent class 17' check
 wrongly '.../L../.../l.. - -' 3 'E21 Inconsistent class 36' check
 wrongly '.../.../.../L.l - -' 0 'E21 Inconsistent class 1' check
+# and of the first format
+base="$lions"
+wrongly "$long" 8 'E21 Inconsistent class 17' check
+wrongly "$long" 8 'win 7' probe "$long"
+# where a move leads to the greatest loss that a record can say, its own value is a ply more
+wrongly '.../.../..l/L.. - -' 65535 'La2-a3 win 65535' best "$position"
+wrongly '..l/.../L../... - -' 65535 'loss 65534' probe "$position"
+# of a line best play may not go on, which is answered for that line alone
+printf '%s\n' "$long" "$position" >"$work/lines"
+python3 tests/certify_wrong_table.py "$lions" "$work/wrong.db" "$long" 8
+expect 1 $'E21 Inconsistent class 17\nLa2-a3 lc4-b4 La3xb4' '' line --each --db "$work/wrong.db" <"$work/lines"
 
 # `look`, `moves`, `best`, `show` and `line --records` read the header and the records that they need: they say what is wrong with these, and nothing else.
 head -c 54 "$lions" >"$work/short.db"
@@ -109,8 +134,10 @@ done
 { head -c 7 "$lions"; printf '2'; tail -c +9 "$lions"; } >"$work/turned.db"
 { head -c 8 "$lions_2"; printf '\1'; tail -c +10 "$lions_2"; } >"$work/set.db"
 { head -c 8 "$lions_2"; printf '\2\2\2'; tail -c +12 "$lions_2"; } >"$work/whole_game.db"
+{ head -c 8 "$lions"; printf '\1'; tail -c +10 "$lions"; } >"$work/set_1.db"
+{ head -c 8 "$lions"; printf '\2\2\2'; tail -c +12 "$lions"; } >"$work/whole_game_1.db"
 for case in 'set|E18 ClassCount' 'whole_game|E18 ClassCount' 'profile|E27 ProfileByte' 'turned|E27 ProfileByte' 'count|E18 ClassCount' \
-    'head|E15 Truncated' 'other_profile|E20 Digest'; do
+    'set_1|E18 ClassCount' 'whole_game_1|E18 ClassCount' 'head|E15 Truncated' 'other_profile|E20 Digest'; do
     IFS='|' read -r name fault <<<"$case"
     expect 1 '' "dobutsu: $fault" check --db "$work/$name.db"
     if [ "$name" != other_profile ]; then expect 1 '' "dobutsu: $fault" look --db "$work/$name.db" "$long"; fi

@@ -72,6 +72,82 @@ draw 4
 4 4
 5 3
 6 4' '' reach "$position" --levels --db "$lions"
+# with a line for each value, by a plain walk and testdata/lions_alone.txt; and as JSON
+expect 0 'classes 39
+open 21
+depth 6
+win 26
+loss 9
+draw 4
+loss 0 4
+win 1 17
+loss 2 2
+win 3 3
+loss 4 1
+win 5 3
+loss 6 2
+win 7 3
+0 1
+1 5
+2 10
+3 12
+4 4
+5 3
+6 4' '' reach --values "$position" --levels --db "$lions"
+expect 0 '{"classes":39,"open":21,"depth":6,"win":26,"loss":9,"draw":4}
+{"value":"draw","plies":null,"classes":4}
+{"value":"loss","plies":0,"classes":4}
+{"value":"win","plies":1,"classes":17}
+{"value":"loss","plies":2,"classes":2}
+{"value":"win","plies":3,"classes":3}
+{"value":"loss","plies":4,"classes":1}
+{"value":"win","plies":5,"classes":3}
+{"value":"loss","plies":6,"classes":2}
+{"value":"win","plies":7,"classes":3}
+{"ply":0,"classes":1}
+{"ply":1,"classes":5}
+{"ply":2,"classes":10}
+{"ply":3,"classes":12}
+{"ply":4,"classes":4}
+{"ply":5,"classes":3}
+{"ply":6,"classes":4}' '' reach --json --values --levels --db "$lions" "$position"
+expect 0 '{"classes":39,"open":21,"depth":6,"win":26,"loss":9,"draw":4}' '' reach --json --db "$lions" "$position"
+expect 0 '{"classes":39,"open":21,"depth":6}' '' reach --json "$position"
+expect 0 'classes 1
+open 0
+depth 0
+win 0
+loss 1
+draw 0
+loss 0 1' '' reach --values --db "$lions" '.../L../.../..l - -'
+# a chick in the hand: by a plain walk and testdata/one_chick.txt
+expect 0 'classes 1440
+open 726
+depth 19
+win 1010
+loss 386
+draw 44
+loss 0 125
+win 1 691
+loss 2 81
+win 3 113
+loss 4 38
+win 5 83
+loss 6 76
+win 7 75
+loss 8 28
+win 9 11
+loss 10 8
+win 11 4
+loss 12 5
+win 13 18
+loss 14 12
+win 15 7
+loss 16 8
+win 17 6
+loss 18 5
+win 19 2' '' reach --values --db "$chick" '..l/.../L../... C -'
+expect 1 '' 'dobutsu: E7 OtherSet' reach --values --db "$lions" '..l/.../.../L.. C -'
 expect 1 '' 'dobutsu: E7 OtherSet' reach --db "$lions" '..l/.../.../L.. C -'
 expect 1 '' 'dobutsu: E1 Shape' reach --db "$work/none.db" ''
 fails_at "$work/none.db" "$gone" reach --db "$work/none.db" "$position"

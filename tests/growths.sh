@@ -9,6 +9,7 @@ refuse() {
 
 for words in "value|$position" "probe|--db|$lions|$position" "line|--db|$lions|$position" "check|--db|$lions" \
     "look|--db|$lions|$position" "reach|--levels|$position" "reach|--db|$lions|$position" "show|$position" "show|--db|$lions|$position" \
+    "reach|--db|$lions|--values|--json|$position" \
     "line|--numbered|--db|$lions|$position" "line|--records|--db|$lions|$position" "stats|--db|$lions" "stats|--csv|--db|$lions" \
     "zugzwangs|--db|$lions|--list|2" "best|--db|$lions|$position" "moves|--db|$lions|$position" \
     "puzzles|--db|$lions|--plies|3|--count|5" "puzzles|--db|$lions|--plies|3|--count|5|--numbered|--random|10|--from|28"; do
@@ -45,3 +46,5 @@ done
 tests=crates/dob_tests_nodes/out/dob_tests_nodes_tests
 [ -x "$tests" ] || (cd crates/dob_tests_nodes && rt test) </dev/null >/dev/null 2>&1
 refuse --program "$tests" world::stops::a_stopped_world_is_as_before
+# a world that is driven: out of memory and nothing else, and in the end the table from outside
+refuse --program "$tests" world::stops::driven_while_growths_are_refused

@@ -20,6 +20,12 @@ for change in 's/DOBUTSU_INDEX = 29/DOBUTSU_INDEX = 28/' 's/DOBUTSU_HEN = 3/DOBU
     note "a header changed by $change doesn't hold" "$same"
 done
 
+# The program of docs/USE.md, "From C", compiles.
+good=no
+sed -n '/^```c$/,/^```$/{//!p}' docs/USE.md >"$work/ask.c"
+if [ -s "$work/ask.c" ] && cc -std=c99 -O2 -Wall -Wextra -Werror -pedantic -Iinclude -c "$work/ask.c" -o "$work/ask.o" >"$work/out" 2>&1; then good=yes; fi
+note "the program in C of docs/USE.md: $(head -1 "$work/out")" "$good"
+
 # The faults' numbers and names are one table, that of docs/FAULTS.md: the library's, the header's, Python's, the page's, and each in a text.
 good=yes
 tools/check-faults >"$work/out" || good=no

@@ -4,6 +4,9 @@
 independent.py published                     compares independent/published.txt with docs/results.csv
 independent.py published SET RULES FILE      compares a file's SHA-256 with the published one
 independent.py positions FILE N              prints N positions of a table, spread over its classes, half of them mirrored, and some that are refused
+independent.py ends FILE                     prints how the table's games end, as its example `ends` does, by pure Python
+independent.py ways FILE POSITION VALUE      looks whether standard input has the table's classes of that value as its example `reached` tells them: whether
+                                             moves from the position lead to each, in how few plies, and by which moves
 independent.py deepest FILE N                prints N positions of a table: of those that are won, lost and drawn in turn, those with the greatest distances
 independent.py spoilt db|cert FIRST SECOND FOLDER
                                              spoils files in each of several ways, and compares what both programs say of them
@@ -55,6 +58,69 @@ def positions(path, count):
         if count > 100 and at % (count // 10) == 0:
             print(REFUSED[at // (count // 10) % len(REFUSED)])
     return True
+
+
+def ends(path):
+    """By what the won classes of a small table end, of equal moves by the first, and how many of those won later have one winning move."""
+    db, kinds, alone = read_db.open_db(path), {}, 0
+
+    def end(text):
+        if text not in kinds:
+            position, value = read_db.read_position(text), db.value(text)
+            if value in ("win 1", "loss 0"):
+                kinds[text] = "capture" if read_db.status(db.profile, position) == "caught" else "try"
+            else:
+                best = next(move for move in read_db.status_and_moves(db.profile, position)[1] if read_db.move_text(position, move) == db.moves(text)[0][0])
+                kinds[text] = end(read_db.write_position(read_db.apply(position, best)))
+        return kinds[text]
+
+    counts = {(is_soon, kind): 0 for is_soon in (True, False) for kind in ("capture", "try")}
+    for text, value in db.positions():
+        if value.startswith("win"):
+            counts[value == "win 1", end(text)] += 1
+            alone += value != "win 1" and sum(told.startswith("win") for _, told in db.moves(text)) == 1
+    for is_soon, name in (True, "won in 1"), (False, "won later"):
+        print(f"{name}: {counts[is_soon, 'capture']} by capture, {counts[is_soon, 'try']} by try")
+    print(f"one winning move: {alone}")
+    return True
+
+
+def ways(path, start, value):
+    """Compares the classes that are told with those of the table, their plies with a search's, and plays the moves."""
+    db, first = read_db.open_db(path), read_db.read_position(start)
+    plies, level = {read_db.class_number(db.profile, first): 0}, [first]
+    for count in range(1, 255):
+        after = {read_db.class_number(db.profile, next_one): next_one for it in level for _, next_one in successors(db.profile, it)}
+        level = [position for number, position in after.items() if number not in plies]
+        plies.update((number, count) for number in after if number not in plies)
+    told = dict(line.rstrip("\n").split(": ", 1) for line in sys.stdin if ": " in line)
+    wanted = [text for text, found in db.positions() if found == value]
+    assert [*told] == wanted, f"{len(told)} classes, wanted {len(wanted)}"
+    for text in wanted:
+        least = plies.get(number_of(db, text))
+        if least is None:
+            assert told[text] == "not reached", text
+            continue
+        count, moves = told[text].split(" plies: ")
+        position = first
+        for ply, move in enumerate(moves.split()):
+            if ply % 2:
+                move = move[0].upper() + move[1:].translate(str.maketrans("ac1234", "ca4321"))
+            position = dict(successors(db.profile, position))[move]
+        assert int(count) == len(moves.split()) == least and read_db.class_number(db.profile, position) == number_of(db, text), text
+    reached = sum(told[text] != "not reached" for text in wanted)
+    print(f"{len(wanted)} classes, {reached} reached")
+    return 0 < reached < len(wanted)
+
+
+def number_of(db, text):
+    return read_db.class_number(db.profile, read_db.read_position(text))
+
+
+def successors(profile, position):
+    """The moves of a position, if it is open, by their texts, with what each leads to."""
+    status, moves = read_db.status_and_moves(profile, position)
+    return [(read_db.move_text(position, move), read_db.apply(position, move)) for move in moves] if status == "open" else []
 
 
 def deepest(path, count):
@@ -148,7 +214,7 @@ def compare_spoilt(kind, first, second, folder):
 
 
 if __name__ == "__main__":
-    calls = {"published": compare_published, "positions": positions, "deepest": deepest, "spoilt": compare_spoilt}
+    calls = {"published": compare_published, "positions": positions, "ends": ends, "ways": ways, "deepest": deepest, "spoilt": compare_spoilt}
     if sys.argv[1:2] == [] or sys.argv[1] not in calls:
         sys.exit(__doc__.strip())
     sys.exit(0 if calls[sys.argv[1]](*sys.argv[2:]) else 1)

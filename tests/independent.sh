@@ -3,6 +3,7 @@
 # Without the kit it tests what needs none.
 
 second="$top/independent/target/release/independent"
+lone='.l./..c/.../.L. - -'
 
 # ---- what needs no kit
 
@@ -49,6 +50,15 @@ second_alone() {
     printf '%s\n' 'position gle/.c./.C./ELG - -' 'claim loss within 78' 'rules B' 'entries 148657' >"$work/wanted"
     if "$second" info testdata/222_B.cert 2>&1 | cmp "$work/wanted" - >"$work/out" 2>&1; then good=yes; fi
     note "the second program says what the header of testdata/222_B.cert says: $(tail -1 "$work/out")" "$good"
+    good=no
+    python3 tests/independent.py ends testdata/one_chick_2.db >"$work/wanted" 2>&1
+    (cd independent && cargo run --release --locked --offline --quiet --example ends -- ../testdata/one_chick_2.db 2) >"$work/out" 2>&1
+    if cmp -s "$work/wanted" "$work/out"; then good=yes; fi
+    note "the example ends counts testdata/one_chick_2.db as pure Python does: $(tail -1 "$work/out")" "$good"
+    good=no
+    (cd independent && cargo run --release --locked --offline --quiet --example reached -- ../testdata/one_chick_2.db "$lone" 2 'loss 8') >"$work/told" 2>&1
+    if python3 tests/independent.py ways testdata/one_chick_2.db "$lone" 'loss 8' <"$work/told" >"$work/out" 2>&1; then good=yes; fi
+    note "the example reached tells ways to the losses in 8 of testdata/one_chick_2.db: $(tail -1 "$work/out")" "$good"
 }
 
 # ---- what asks both
@@ -123,6 +133,22 @@ same_certificates() {
     note "twenty certificates were made: $count" "$([ "$count" = 20 ] && echo yes || echo no)"
 }
 
+# What a game can reach from the deepest positions of a table, by value: the example `reached` finds what `reach` does.
+same_reached() {
+    local good words text
+    for words in 111_A 201_B; do
+        while read -r text; do
+            good=no
+            "$program" reach --values --db "$work/$words.db" "$text" </dev/null 2>"$work/err" |
+                sed -n '/^\(win\|loss\) [0-9]* [0-9]*$/p; /^draw [1-9]/p' | sort >"$work/first.txt"
+            (cd independent && cargo run --release --locked --offline --quiet --example reached -- "$work/$words.db" "$text" 2) </dev/null 2>"$work/err" |
+                sed 's/,/ /' | sort >"$work/second.txt"
+            if [ -s "$work/first.txt" ] && cmp "$work/first.txt" "$work/second.txt" >"$work/out"; then good=yes; fi
+            note "both reach as many classes of $words from $text: $(tail -1 "$work/out") $(tail -1 "$work/err")" "$good"
+        done < <(python3 tests/independent.py deepest "$work/$words.db" 3)
+    done
+}
+
 # Spoilt files: both take each or refuse it, by the same fault, of an entry or a class by the same number.
 same_faults() {
     local good kind
@@ -140,6 +166,7 @@ if needs cargo && build_second; then
     if [ "$has_program" = yes ]; then
         same_tables
         same_certificates
+        same_reached
         same_faults
     fi
     end_tests

@@ -22,6 +22,7 @@ kitless ./dobutsu --unproved value "$position"
 kitless tools/prove dobutsu
 kitless tools/prove dobutsu_c
 kitless tools/page
+kitless tools/page-module
 kitless tools/page --with nowhere
 kitless tools/library "$work"
 kitless tools/release "$work"
@@ -29,7 +30,7 @@ kitless tools/release nowhere
 kitless ./test
 kitless ./test usage kitless
 
-# README's page, and plain Python's answer, leave the clone as it was.
+# README's page, and pure Python's answer, leave the clone as it was.
 good=no
 if (cd "$work/clone" && PATH="$work/commands" && python3 page/build.py --with testdata/222_A.cert - solved.html && PYTHONPATH=python python3 -c '
 from dobutsu import Certificate, Position, Table
@@ -38,6 +39,10 @@ with Table("testdata/lions_alone_2.db") as table:
 assert Position("gle/.c./.C./ELG - -").moves() == ["Lb1-a2", "Lb1-c2", "Gc1-c2", "Cb2xb3"]') >"$work/out" 2>&1 &&
     [ -z "$(git -C "$work/clone" status --porcelain)" ]; then good=yes; fi
 note "the page and Python's answers leave a clone clean: $(tail -1 "$work/out") $(git -C "$work/clone" status --porcelain | head -3)" "$good"
+
+# The page's proved engine is the one of the clone's sources, which needs no kit to be seen.
+if (cd "$work/clone" && PATH="$work/commands" tools/page-module --check) >"$work/out" 2>&1; then good=yes; else good=no; fi
+note "tools/page-module --check: $(tail -1 "$work/out")" "$good"
 
 # The programs of the pages that need no kit, as the pages have them.
 says() {
@@ -59,6 +64,7 @@ says '.../.l./.../L.. - -
 l../.../L../... - -
 .l./.../.L./... - -' examples/positions.py testdata/lions_alone_2.db draw
 says '.c./l../.../.L. - - loss 8' examples/certificate.py testdata/one_chick.cert
+says '2124 classes there and back, by both colours' examples/colours.py 100
 
 # The package installs from the clone, with no network.
 good=no

@@ -14,6 +14,12 @@ cc -O2 examples/probe.c -D_POSIX_C_SOURCE=200809L -I"$release" -L"$release" -ldo
 [ "$(echo "$position" | "$work/probe_so" testdata/lions_alone.db)" = 'win 3' ] || same=no
 echo '#include "dobutsu.h"' | cc -x c++ -fsyntax-only -Wall -Wextra -Werror -I"$release" - >"$work/out" 2>&1 || same=no
 note "the shared object, and the header in C++: $(head -1 "$work/out")" "$same"
+# The program of docs/USE.md, "From C", says the values of testdata.
+same=yes
+sed -n '/^```c$/,/^```$/{//!p}' docs/USE.md >"$work/ask.c"
+compile -O2 "$work/ask.c" -o "$work/ask_c" || same=no
+[ "$("$work/ask_c" '.l./..c/.../.L. - -' <testdata/one_chick_2.db)" = 'win 7' ] && [ "$("$work/ask_c" x <testdata/one_chick_2.db)" = E1 ] || same=no
+note "the program in C of docs/USE.md: $(head -1 "$work/out")" "$same"
 # The header's version is the library's, and the program's.
 same=yes
 compile tests/library_version.c -o "$work/version" || same=no
@@ -138,9 +144,9 @@ same=yes
 compile -O2 examples/verify.c -o "$work/verify_c" || same=no
 [ "$("$work/verify_c" testdata/one_chick.cert)" = '100 A class 686 loss 8' ] || same=no
 python3 tests/library_certificates.py "$work/verify_c" testdata/one_chick.cert "$work" >"$work/out" 2>&1 || same=no
-note "dobutsu_verify answers what plain Python does: $(tail -1 "$work/out")" "$same"
+note "dobutsu_verify answers what pure Python does: $(tail -1 "$work/out")" "$same"
 # The move that a certificate gives each position of its set: what the reader in Python finds. And the faults, of the text, of the bytes, of the set, of an
 # entry that isn't shown, in this order.
 same=yes
 python3 tests/library_replies.py "$release/libdobutsu.so" testdata/one_chick.cert >"$work/out" 2>&1 || same=no
-note "dobutsu_reply gives the moves that plain Python finds: $(tail -1 "$work/out")" "$same"
+note "dobutsu_reply gives the moves that pure Python finds: $(tail -1 "$work/out")" "$same"

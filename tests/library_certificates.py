@@ -7,14 +7,14 @@ import pathlib
 import subprocess
 import sys
 sys.path.insert(0, "python")
-from dobutsu import plain
+from dobutsu import pure
 
 
 def said(data):
     try:
-        certificate = plain.Certificate(data)
+        certificate = pure.Certificate(data)
         certificate.verify()
-    except plain.Fault as wrong:
+    except pure.Fault as wrong:
         number, _name, *more = str(wrong).split()
         return " ".join([number, *more])
     claim = certificate.claim + (f" {certificate.plies}" if certificate.claim != "draw" else "")

@@ -5,13 +5,13 @@ And the faults, of the text, of the bytes, of the set, of an entry that isn't sh
 import hashlib
 import sys
 sys.path.insert(0, "python")
-from dobutsu import plain
+from dobutsu import pure
 from dobutsu.library import Verifier
 library, data = Verifier(sys.argv[1]), open(sys.argv[2], "rb").read()
-certificate, asked, moves = plain.Certificate(data), 0, 0
-for number in range(plain.class_count(certificate.profile, certificate.pieces)):
+certificate, asked, moves = pure.Certificate(data), 0, 0
+for number in range(pure.class_count(certificate.profile, certificate.pieces)):
     position = certificate.position_at(number)
-    for text in map(plain.write_position, (position, plain.mirrored(position))):
+    for text in map(pure.write_position, (position, pure.mirrored(position))):
         wanted = certificate.reply(text)
         assert library.reply(data, text) == wanted, (text, wanted)
         asked, moves = asked + 1, moves + (wanted is not None)
@@ -20,13 +20,13 @@ for number in range(plain.class_count(certificate.profile, certificate.pieces)):
 def fault_of(data, text):
     try:
         return library.reply(data, text)
-    except plain.Fault as fault:
+    except pure.Fault as fault:
         return str(fault)
 
 
 place = next(place for place in range(28, len(data)) if data[place] < 128) + 1  # the plies of the first entry
 false = data[:place] + b"\0" + data[place + 1 : -32]
-text, lions = plain.write_position(certificate.position()), "..l/.../L../... - -"
+text, lions = pure.write_position(certificate.position()), "..l/.../L../... - -"
 for spoilt, asked_for, fault in [
     (data[:40], "x", "E1 Shape"), (data[:-1], lions, "E15 Truncated"), (data[:-1] + bytes([data[-1] ^ 1]), lions, "E20 Digest"), (data, lions, "E7 OtherSet"),
     (false + hashlib.sha256(false).digest(), lions, "E7 OtherSet"), (false + hashlib.sha256(false).digest(), text, "E30 Unsupported"),

@@ -11,7 +11,7 @@ leave_out() {
 # Adds the counts that so many runs of tests have printed, and their failures: `count_runs NUMBER PRINTED ERRORS WORDS`.
 count_runs() {
     local line='^[0-9]+ passed, [0-9]+ failed$' good bad
-    grep '^FAILED' "$2"
+    grep -E '^(FAILED|LEFT OUT): ' "$2"
     while read -r good _ bad _; do
         passed=$((passed + good))
         failed=$((failed + bad))
@@ -27,12 +27,20 @@ add_counts() {
 mkdir "$work/elsewhere"
 cp -r page "$work/elsewhere"
 same=yes
-python3 page/build.py - "$work/dobutsu.html" >"$work/out" 2>&1 || same=no
-python3 "$work/elsewhere/page/build.py" - "$work/again.html" >>"$work/out" 2>&1 || same=no
-cmp -s "$work/dobutsu.html" "$work/again.html" || same=no
-[ "$(wc -c <"$work/dobutsu.html")" -lt 300000 ] || same=no
+for words in '--script -' -; do
+    python3 page/build.py $words "$work/dobutsu.html" >"$work/out" 2>&1 || same=no
+    python3 "$work/elsewhere/page/build.py" $words "$work/again.html" >>"$work/out" 2>&1 || same=no
+    cmp -s "$work/dobutsu.html" "$work/again.html" || same=no
+    [ "$(wc -c <"$work/dobutsu.html")" -lt 300000 ] || same=no
+done
+grep -q '^window.DobutsuWasm = ' "$work/dobutsu.html" || same=no
+python3 page/build.py --script - "$work/dobutsu.html" >>"$work/out" 2>&1 || same=no
 rm -rf "$work/elsewhere"
-note "page/build.py makes one file of less than 300 KB here and at another path: $(tail -1 "$work/out")" "$same"
+note "page/build.py makes one file of less than 300 KB here and at another path, with the proved engine and with --script: $(tail -1 "$work/out")" "$same"
+
+# The module that stands in the repository was made of today's sources.
+if tools/page-module --check >"$work/out" 2>&1; then good=yes; else good=no; fi
+note "tools/page-module --check: $(tail -1 "$work/out")" "$good"
 
 # A page with a file in it.
 same=yes
@@ -44,12 +52,15 @@ note "page/build.py --with puts a file into the page: $(tail -1 "$work/out")" "$
 if tools/page-mutants --check >"$work/out" 2>&1; then good=yes; else good=no; fi
 note "tools/page-mutants --check: $(tail -1 "$work/out")" "$good"
 
-# The engine in plain JavaScript against tools/read_db.py, in Node where it is there.
+# The engine in JavaScript against tools/read_db.py, and games as texts and files, in Node where it is there.
 if command -v node >/dev/null; then
-    if node page/test/core.test.js 1500 >"$work/out" 2>&1; then good=yes; else good=no; fi
-    note "page/test/core.test.js: $(tail -1 "$work/out")" "$good"
+    for words in 'core.test.js 1500' gametext.test.js; do
+        # shellcheck disable=SC2086 # a test and its number
+        if node page/test/$words >"$work/out" 2>&1; then good=yes; else good=no; fi
+        note "page/test/${words% *}: $(tail -1 "$work/out")" "$good"
+    done
 else
-    leave_out 1 'the engine in plain JavaScript against tools/read_db.py, since Node is not there'
+    leave_out 2 'the engine in JavaScript against tools/read_db.py, and games as texts and files, since Node is not there'
 fi
 
 # The page in Firefox: the parts that it runs, and a quarter of the scenes with either engine.
@@ -60,7 +71,7 @@ in_firefox() {
     done
 }
 
-# The page in browsers, with the plain engine and with the proved one, whose page is made beside the scenes. All scenes in Chromium with the plain engine, a
+# The page in browsers, with the script engine and with the proved one, whose page is made beside the scenes. All scenes in Chromium with the script engine, a
 # quarter of them with the proved one. Firefox goes its way beside Chromium.
 if needs chromium wasm-opt; then
     mkdir "$work/files"
@@ -72,6 +83,8 @@ if needs chromium wasm-opt; then
     wait "$maker" || good=no
     grep -q '^window.DobutsuWasm = ' "$work/proved.html" || good=no
     note "tools/page makes the page with the proved engine: $(tail -1 "$work/made")" "$good"
+    if tools/page-module >"$work/out" 2>&1; then good=yes; else good=no; fi
+    note "the module that is made here: $(tail -1 "$work/out")" "$good"
     if command -v firefox-esr firefox >/dev/null; then
         in_firefox >"$work/firefox_told" 2>"$work/firefox_err" &
         firefox=$!
@@ -82,7 +95,7 @@ if needs chromium wasm-opt; then
     add_counts python3 page/test/page_test.py "$work/dobutsu.html" "$program"
     add_counts python3 page/test/planted.py "$program"
     add_counts python3 page/test/scenes.py --page "$work/proved.html" elsewhere
-    add_counts python3 page/test/page_test.py "$work/proved.html" "$program" told opening certificates certificates/whole_B
+    add_counts python3 page/test/page_test.py "$work/proved.html" "$program" told opening certificates certificates/whole_B layout/letters
     if [ -n "$firefox" ]; then
         wait "$firefox"
         count_runs 3 "$work/firefox_told" "$work/firefox_err" 'the page in Firefox'
@@ -93,7 +106,7 @@ if needs chromium wasm-opt; then
         if node page/test/told.test.js page/out/dobutsu_web.wasm "$program" 2000 >"$work/out" 2>&1; then good=yes; else good=no; fi
         note "page/test/told.test.js: $(tail -1 "$work/out")" "$good"
     else
-        leave_out 2 'the proved engine against the plain one, and against the program on 2,000 positions of 111 by each of the rules, since Node is not there'
+        leave_out 2 'the proved engine against the script, and against the program on 2,000 positions of 111 by each of the rules, since Node is not there'
     fi
 fi
-if [ "$left_out" -gt 0 ]; then echo "page: $left_out of 15 tests left out"; fi
+if [ "$left_out" -gt 0 ]; then echo "page: $left_out of 18 tests left out"; fi

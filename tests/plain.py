@@ -1,12 +1,13 @@
 #!/usr/bin/env python3
-"""What tests/plain.sh asks beside plain/dobutsu_plain.c.
+"""What tests/plain.sh asks beside plain/.
 
 plain.py sparse RULES FILE N     makes a file of the whole game with values at the classes of N positions, and of those that their moves lead to, and none
                                  elsewhere; prints these positions. The values say the class, so that another class shows. The digest is wrong
-plain.py answers WORD FILE       what `--each` of the program prints of the positions on standard input, by plain Python: WORD is probe, moves or best
+plain.py answers WORD FILE       what `--each` of the program prints of the positions on standard input, by pure Python: WORD is probe, moves or best
 plain.py texts N                 prints N lines that are almost texts of positions of lions, or of one chick
+plain.py moves                   prints the texts of all moves: drops, and steps that catch or don't; a lion doesn't leave row 4
 plain.py costliest               prints positions whose class takes the most steps to find: both lions on column b, all else as in the mirror image
-plain.py spoilt ASK FILE FOLDER  spoils a file's header and length, and compares the fault that the program ASK prints of each with plain Python's
+plain.py spoilt ASK FILE FOLDER  spoils a file's header and length, and compares the fault that the program ASK prints of each with pure Python's
 """
 import itertools
 import pathlib
@@ -16,34 +17,34 @@ import sys
 
 sys.dont_write_bytecode = True
 sys.path.insert(0, str(pathlib.Path(__file__).resolve().parent.parent / "python"))
-from dobutsu import plain  # noqa: E402
+from dobutsu import pure  # noqa: E402
 
 WHOLE = (2, 2, 2)
 
 
 def sparse(rules, path, count):
-    chance, classes = random.Random(90), plain.class_count(rules, WHOLE)
+    chance, classes = random.Random(90), pure.class_count(rules, WHOLE)
     with open(path, "wb") as file:
-        file.write(b"DOBUTSU2" + bytes([*WHOLE, 2, plain.PROFILES.index(rules)]) + classes.to_bytes(8, "little"))
+        file.write(b"DOBUTSU2" + bytes([*WHOLE, 2, pure.PROFILES.index(rules)]) + classes.to_bytes(8, "little"))
         file.truncate(21 + 2 * classes + 32)
 
         def put(position):
-            number = plain.class_number(rules, position)
+            number = pure.class_number(rules, position)
             file.seek(21 + 2 * number)
             file.write((number * 40503 // 8 % 65534 + 1).to_bytes(2, "little"))
 
-        evens = even_boards(lambda kind: [chance.choice(plain.FORMS_OF[kind]) for _ in range(2)])
-        evens = [plain.write_position(position) for position in evens if plain.is_allowed(rules, position)]
+        evens = even_boards(lambda kind: [chance.choice(pure.FORMS_OF[kind]) for _ in range(2)])
+        evens = [pure.write_position(position) for position in evens if pure.is_allowed(rules, position)]
         texts = ["gle/.c./.C./ELG - -", *chance.sample(evens, int(count) // 2)]
         while len(texts) < int(count):
-            position = plain.position_at(rules, WHOLE, chance.randrange(classes))
-            texts.append(plain.write_position(plain.mirrored(position) if len(texts) % 2 else position))
+            position = pure.position_at(rules, WHOLE, chance.randrange(classes))
+            texts.append(pure.write_position(pure.mirrored(position) if len(texts) % 2 else position))
         for text in texts:
-            position = plain.read_position(text)
+            position = pure.read_position(text)
             put(position)
-            status, moves = plain.status_and_moves(rules, position)
+            status, moves = pure.status_and_moves(rules, position)
             for move in moves if status == "open" else []:
-                put(plain.apply(position, move))
+                put(pure.apply(position, move))
     print(*texts, sep="\n")
 
 
@@ -53,12 +54,12 @@ def answer(db, word, text):
             return db.value(text)
         lines = [" ".join(move) for move in db.moves(text)] or ["end"]
         return lines[0] if word == "best" else "\n".join([*lines, ""])
-    except plain.Fault as fault:
+    except pure.Fault as fault:
         return str(fault) + ("\n" if word == "moves" else "")
 
 
 def answers(word, path):
-    db = plain.open_db(path, check=False)
+    db = pure.open_db(path, check=False)
     for line in sys.stdin.buffer.read().decode("latin-1").split("\n")[:-1]:
         print(answer(db, word, line))
 
@@ -84,14 +85,24 @@ def even_boards(forms_of):
         for chosen in itertools.permutations(evens, 3):
             board = ["."] * 12
             board[lions[0]], board[lions[1]] = "L", "l"
-            for squares, kind in zip(chosen, plain.KINDS):
+            for squares, kind in zip(chosen, pure.KINDS):
                 for square, letter in zip(squares, forms_of(kind)):
                     board[square] = letter
             yield "".join(board), (0, 0, 0), (0, 0, 0)
 
 
+def moves():
+    for start in range(12):
+        at = pure.square_name(start)
+        print(*(f"{letter}*{at}" for letter in "CEG"), sep="\n")
+        for letter in "CEGHL" if start < 9 else "EGH":
+            for end in pure.targets(letter, start):
+                grown = "+" if letter == "C" and end >= 9 else ""
+                print(f"{letter}{at}-{pure.square_name(end)}{grown}", f"{letter}{at}x{pure.square_name(end)}{grown}", sep="\n")
+
+
 def costliest():
-    return [plain.write_position(position) for position in even_boards(lambda kind: {"C": "HH", "E": "ee", "G": "GG"}[kind])]
+    return [pure.write_position(position) for position in even_boards(lambda kind: {"C": "HH", "E": "ee", "G": "GG"}[kind])]
 
 
 def spoilt_files(data, chance):
@@ -112,9 +123,9 @@ def spoilt(ask, path, folder):
     file = pathlib.Path(folder) / "spoilt.db"
     for data in spoilt_files(pathlib.Path(path).read_bytes(), chance):
         try:
-            plain.Db(data, check=False)
+            pure.Db(data, check=False)
             wanted = ""
-        except plain.Fault as fault:
+        except pure.Fault as fault:
             wanted = str(fault)
         file.write_bytes(data)
         for way in "bytes", "reader":
@@ -127,7 +138,7 @@ def spoilt(ask, path, folder):
 
 
 if __name__ == "__main__":
-    calls = {"sparse": sparse, "answers": answers, "texts": texts, "costliest": lambda: print(*costliest(), sep="\n"), "spoilt": spoilt}
+    calls = {"sparse": sparse, "answers": answers, "texts": texts, "moves": moves, "costliest": lambda: print(*costliest(), sep="\n"), "spoilt": spoilt}
     if sys.argv[1:2] == [] or sys.argv[1] not in calls:
         sys.exit(__doc__.strip())
     sys.exit(1 if calls[sys.argv[1]](*sys.argv[2:]) is False else 0)

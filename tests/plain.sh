@@ -1,4 +1,4 @@
-# The file of C for engines, plain/: it compiles without a word, answers as the program does, stands hostile files and positions, and takes few instructions.
+# The files of C for engines, plain/: they compile without a word, answer as the program does, stand hostile files and positions, and take few instructions.
 
 # Without the kit it tests what needs none.
 
@@ -11,7 +11,7 @@ sanitized=(-g -O1 '-fsanitize=address,undefined' -fno-sanitize-recover=all)
 built() {
     local good=no name="$1" compiler="$2"
     shift 2
-    if "$compiler" "${strict[@]}" "$@" plain/dobutsu_plain.c -o "$work/$name" >"$work/out" 2>&1 && [ ! -s "$work/out" ]; then good=yes; fi
+    if "$compiler" "${strict[@]}" "$@" plain/*.c -o "$work/$name" >"$work/out" 2>&1 && [ ! -s "$work/out" ]; then good=yes; fi
     note "$compiler $*: $(head -1 "$work/out")" "$good"
     [ "$good" = yes ]
 }
@@ -19,11 +19,17 @@ built() {
 built_alone() {
     local good=no
     if printf '#include "dobutsu_plain.h"\n' | cc -x c++ -Wall -Wextra -Werror -pedantic -fsyntax-only -Iplain - >"$work/out" 2>&1 &&
-        cc -x c++ -Wall -Wextra -Werror -pedantic -fsyntax-only -Iplain plain/dobutsu_plain.c >"$work/out" 2>&1; then good=yes; fi
+        cc -x c++ -Wall -Wextra -Werror -pedantic -fsyntax-only -Iplain plain/*.c >"$work/out" 2>&1; then good=yes; fi
     note "plain/ in C++: $(head -1 "$work/out")" "$good"
+    # The numbers of what stands on a square are added as the headers say to, without a warning of a later C++.
+    good=no
+    if printf '#include "dobutsu_plain.h"\n#include "dobutsu.h"\nint hens[] = {PLAIN_ENEMY + PLAIN_HEN, DOBUTSU_ENEMY + DOBUTSU_LION};\n' |
+        cc -x c++ -std=c++20 -Wall -Wextra -Werror -pedantic -fsyntax-only -Iplain -Iinclude - >"$work/out" 2>&1 &&
+        cc -x c++ -std=c++20 -Wall -Wextra -Werror -pedantic -fsyntax-only -Iplain plain/*.c >>"$work/out" 2>&1; then good=yes; fi
+    note "plain/ and both headers in C++20: $(head -1 "$work/out")" "$good"
     # It calls nothing but what a compiler puts in itself, and has nothing that is written to.
     good=no
-    if cc "${strict[@]}" -O2 -c plain/dobutsu_plain.c -o "$work/plain.o" >"$work/out" 2>&1 &&
+    if cc "${strict[@]}" -O2 -r -nostdlib plain/*.c -o "$work/plain.o" >"$work/out" 2>&1 &&
         ! nm -u "$work/plain.o" | grep -vE ' (memcpy|memset|memmove|__stack_chk_fail|_GLOBAL_OFFSET_TABLE_)$' >"$work/out" &&
         ! nm "$work/plain.o" | grep -E ' [bBdDcC] ' >"$work/out"; then good=yes; fi
     note "plain/ stands on nothing and keeps nothing: $(head -1 "$work/out")" "$good"
@@ -39,7 +45,7 @@ tables_of() {
     done
 }
 
-# What is wanted of positions: what the program prints, or of the whole game plain Python, and else the second program. The whole game's digest is wrong, so
+# What is wanted of positions: what the program prints, or of the whole game pure Python, and else the second program. The whole game's digest is wrong, so
 # that `look` is asked, which doesn't read it.
 wanted_of() {
     local word="$1" file="$2"
@@ -107,6 +113,14 @@ answers_of_files() {
     done
 }
 
+# The texts of all moves, as pure Python lists them; any other numbers have none.
+texts_of_moves() {
+    local good=no
+    python3 tests/plain.py moves | sort >"$work/wanted"
+    if [ "$(grep -c . "$work/wanted")" = 356 ] && "$work/ask_sanitized" moves | sort | cmp "$work/wanted" - >"$work/out" 2>&1; then good=yes; fi
+    note "plain/ writes and reads the texts of all moves and no other: $(tail -1 "$work/out")" "$good"
+}
+
 answers_of_the_whole_game() {
     local good rules
     for rules in A B; do
@@ -116,6 +130,15 @@ answers_of_the_whole_game() {
             cp "$work/asked" "$work/asked_$rules" && answers_alike "$work/222_$rules.db" >"$work/out" 2>&1; then good=yes; fi
         note "plain/ finds the classes of 240 positions of 222 by rules $rules, and of their moves: $(tail -1 "$work/out")" "$good"
     done
+}
+
+# The program of plain/README.md, as a reader would compile it.
+program_of_the_page() {
+    local good=no
+    sed -n '/^```c$/,/^```$/{//!p}' plain/README.md >"$work/ask.c"
+    if built page_asks cc -O2 "$work/ask.c" && [ "$("$work/page_asks" '.l./..c/.../.L. - -' <testdata/one_chick_2.db)" = 'win 7' ] &&
+        [ "$("$work/page_asks" x <testdata/one_chick_2.db)" = 'E1 Shape' ]; then good=yes; fi
+    note "the program of plain/README.md: $(tail -1 "$work/out")" "$good"
 }
 
 # The same on a machine whose numbers have the highest byte first.
@@ -143,7 +166,7 @@ stands_hostility() {
         done
         good=no
         if python3 tests/plain.py spoilt "$work/ask_cc" "$name" "$work" >"$work/out" 2>&1; then good=yes; fi
-        note "plain/ refuses what plain Python does, by $(basename "$name"): $(tail -1 "$work/out")" "$good"
+        note "plain/ refuses what pure Python does, by $(basename "$name"): $(tail -1 "$work/out")" "$good"
     done
 }
 
@@ -187,6 +210,8 @@ if built ask_cc cc -O2 tests/plain_ask.c && built ask_sanitized cc "${sanitized[
         echo "Not run: plain/ in 32 bit, for which this compiler has no library."
     fi
     built_alone
+    program_of_the_page
+    texts_of_moves
     answers_of_files
     if [ "$has_program" = yes ]; then
         if tables_of "$program"; then answers_of_sets; else note "tables by the program: $(tail -1 "$work/out")" no; fi

@@ -1,6 +1,6 @@
-/* Asks plain/dobutsu_plain.c as the program is asked: plain_ask texts|probe|moves|best bytes|index|reader FILE < POSITIONS. It prints what
+/* Asks plain/ as the program is asked: plain_ask texts|probe|moves|best bytes|index|reader FILE < POSITIONS. It prints what
    `--each` does, `texts` what `probe` does: by the file's bytes, mapped; by an index too; or by an index and a function that reads. Where the file is refused
-   it prints its fault alone. */
+   it prints its fault alone. plain_ask moves: prints the text of all numbers of a move that have one, each of which is read as it was. */
 
 #include <fcntl.h>
 #include <stdio.h>
@@ -80,6 +80,27 @@ static void answer(const PlainTable *table, const char *word, const char *line)
         tell_best(table, &position);
 }
 
+/* Prints the texts of all moves, by numbers that go beyond them. */
+static int tell_all_moves(void)
+{
+    unsigned number;
+    for (number = 0; number < 7 * 14 * 14 * 3 * 3; number++) {
+        PlainMove move, read;
+        char text[PLAIN_MOVE_TEXT];
+        move.grows = (uint8_t)(number % 3);
+        move.catches = (uint8_t)(number / 3 % 3);
+        move.to = (uint8_t)(number / 9 % 14);
+        move.from = (uint8_t)(number / 9 / 14 % 14);
+        move.kind = (uint8_t)(number / 9 / 14 / 14);
+        if (plain_write_move(&move, text) != PLAIN_OK)
+            continue;
+        if (plain_read_move(text, strlen(text), &read) != PLAIN_OK || memcmp(&move, &read, sizeof read) != 0)
+            return 3;
+        puts(text);
+    }
+    return 0;
+}
+
 int main(int argc, char **argv)
 {
     static uint32_t words[PLAIN_MOST_INDEX_WORDS];
@@ -89,6 +110,8 @@ int main(int argc, char **argv)
     void *mapped = words;
     uint32_t fault;
     int opened = argc == 4 ? open(argv[3], O_RDONLY) : -1;
+    if (argc == 2)
+        return tell_all_moves();
     if (opened < 0 || fstat(opened, &about) != 0)
         return 2;
     if (about.st_size > 0)

@@ -1,4 +1,4 @@
-/* Hands plain/dobutsu_plain.c what nobody should: plain_hostile FILE TEXT.., under the sanitizers. The file is cut everywhere, is longer, has each byte of its
+/* Hands plain/ what nobody should: plain_hostile FILE TEXT.., under the sanitizers. The file is cut everywhere, is longer, has each byte of its
    header and many others changed, and its reader fails; its texts are cut, longer and changed; positions, moves and profiles are any numbers. Each is in memory
    of just its length, so that a sanitizer sees what is read or written beside it. Prints how many calls there were; status 1 where an answer is none. */
 
@@ -62,7 +62,7 @@ static int read_source(void *context, uint64_t offset, uint8_t *bytes, size_t le
 static void ask_position(const PlainTable *table, const PlainPosition *given, uint32_t profile)
 {
     PlainPosition *position = (PlainPosition *)taken(sizeof *position), *after = (PlainPosition *)taken(sizeof *after);
-    PlainMove *moves = (PlainMove *)taken(PLAIN_MOST_MOVES * sizeof *moves), move;
+    PlainMove *moves = (PlainMove *)taken(PLAIN_MOST_MOVES * sizeof *moves), move, read;
     PlainValuedMove *valued = (PlainValuedMove *)taken(PLAIN_MOST_MOVES * sizeof *valued), best;
     PlainValue value;
     char *text = (char *)taken(PLAIN_POSITION_TEXT), *move_text = (char *)taken(PLAIN_MOVE_TEXT);
@@ -75,12 +75,16 @@ static void ask_position(const PlainTable *table, const PlainPosition *given, ui
     if (noted(plain_moves(position, profile, moves, &count, &status)) != fault)
         exit(1);
     for (number = 0; number < count; number++) {
-        if (plain_write_move(&moves[number], move_text) != PLAIN_OK)
+        if (plain_write_move(&moves[number], move_text) != PLAIN_OK || plain_read_move(move_text, strlen(move_text), &read) != PLAIN_OK ||
+            memcmp(&read, &moves[number], sizeof read) != 0)
             exit(1);
         fault = noted(plain_play(position, profile, &moves[number], after));
         if (fault != (status == PLAIN_OPEN ? PLAIN_OK : PLAIN_NO_MOVE) || (fault == PLAIN_OK && plain_check(after, profile) != PLAIN_OK))
             exit(1);
         if (fault == PLAIN_OK && (plain_play(position, profile, &moves[number], position) != PLAIN_OK || memcmp(position, after, sizeof *after) != 0))
+            exit(1);
+        *position = *given;
+        if (fault == PLAIN_OK && (plain_play_listed(position, &moves[number], position) != PLAIN_OK || memcmp(position, after, sizeof *after) != 0))
             exit(1);
         *position = *given;
     }
@@ -90,9 +94,11 @@ static void ask_position(const PlainTable *table, const PlainPosition *given, ui
     move.catches = (uint8_t)drawn(3);
     move.grows = (uint8_t)drawn(3);
     noted(plain_write_move(&move, move_text));
+    noted(plain_play_listed(position, &move, after));
     noted(plain_play(position, profile, &move, after));
     if (table != NULL) {
-        noted(plain_probe(table, position, &value));
+        if (noted(plain_probe(table, position, &value)) == PLAIN_OK && table->classes == 0)
+            exit(1);
         noted(plain_values(table, position, valued, &count));
         noted(plain_best(table, position, &best));
     }
@@ -159,9 +165,11 @@ static uint32_t ask_file(const uint8_t *given, size_t length, const char *text)
     uint32_t fault, by_reader, *words;
     unsigned reads;
     memcpy(bytes, given, length);
+    /* what was refused has no class, and may be asked all the same */
     fault = noted(plain_open(&table, bytes, length));
-    if (fault == PLAIN_OK)
-        ask_text(&table, text, strlen(text));
+    if ((fault == PLAIN_OK) != (table.classes > 0))
+        exit(1);
+    ask_text(&table, text, strlen(text));
     for (reads = 0; reads < 8; reads++) {
         source.bytes = bytes;
         source.length = length;
@@ -169,8 +177,10 @@ static uint32_t ask_file(const uint8_t *given, size_t length, const char *text)
         by_reader = noted(plain_open_by(&table, read_source, &source, length));
         if (by_reader != fault && by_reader != PLAIN_IO)
             exit(1);
-        if (by_reader != PLAIN_OK)
+        if (by_reader != PLAIN_OK) {
+            ask_text(&table, text, strlen(text));
             continue;
+        }
         words = (uint32_t *)taken(plain_index_words(&table) * sizeof *words);
         if (noted(plain_index(&table, words, drawn(2))) != PLAIN_INDEX || noted(plain_index(&table, words, plain_index_words(&table))) != PLAIN_OK)
             exit(1);
@@ -181,6 +191,33 @@ static uint32_t ask_file(const uint8_t *given, size_t length, const char *text)
     }
     free(bytes);
     return fault;
+}
+
+/* Texts of moves that are cut, longer and changed: what is read is written as it was. */
+static void ask_move_texts(void)
+{
+    static const char *const texts[] = {"Cb3xb4+", "C*a2", "La2-a3", "Hb2xa1", "G*c4", "Ea1-b2"};
+    static const char usual[] = "-x*+abc1234CEGHLld";
+    PlainMove move;
+    char written[PLAIN_MOVE_TEXT];
+    unsigned turn;
+    for (turn = 0; turn < 60000; turn++) {
+        const char *text = texts[turn % 6];
+        size_t length = strlen(text), at;
+        char *changed = (char *)taken(length + 2);
+        memcpy(changed, text, length);
+        for (at = drawn(3); at > 0; at--)
+            changed[drawn((uint32_t)length)] = drawn(9) == 0 ? (char)drawn(256) : usual[drawn(18)];
+        changed[length] = changed[length + 1] = drawn(2) == 0 ? '+' : '\0';
+        length = drawn(3) == 0 ? drawn((uint32_t)length + 3) : length;
+        changed = (char *)realloc(changed, length == 0 ? 1 : length);
+        if (changed == NULL)
+            exit(2);
+        if (noted(plain_read_move(changed, length, &move)) == PLAIN_OK &&
+            (plain_write_move(&move, written) != PLAIN_OK || strlen(written) != length || memcmp(written, changed, length) != 0))
+            exit(1);
+        free(changed);
+    }
 }
 
 int main(int argc, char **argv)
@@ -211,6 +248,7 @@ int main(int argc, char **argv)
     }
     ask_positions(&table);
     ask_positions(NULL);
+    ask_move_texts();
     printf("%lu calls\n", calls);
     return 0;
 }

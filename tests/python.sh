@@ -43,7 +43,7 @@ for ruled_set in A_000 B_100 A_101; do
         fi
     done <"$work/asked" >"$work/printed"
     "$program" stats --db "$file" | grep -E '^(win|loss|draw) [0-9]+$|^longest' >>"$work/printed"
-    for engine in plain "$release/libdobutsu.so"; do
+    for engine in pure "$release/libdobutsu.so"; do
         PYTHONPATH=python python3 tests/python_ask.py "$engine" "$file" <"$work/asked" >"$work/said" 2>&1
         [ -s "$work/said" ] && cmp -s "$work/printed" "$work/said" || same=no
     done
@@ -55,7 +55,7 @@ same=yes
 mkdir "$work/folder"
 cp testdata/lions_alone_2.db "$work/folder/000.db"
 cp testdata/one_chick_2.db "$work/folder/100.db"
-for engine in plain "$release/libdobutsu.so"; do
+for engine in pure "$release/libdobutsu.so"; do
     PYTHONPATH=python timeout 100 python3 tests/python_used.py "$engine" "$work/whole.db" "$work/folder" >"$work/said" 2>&1 || same=no
     [ "$(cat "$work/said")" = used ] || same=no
 done

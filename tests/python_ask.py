@@ -1,9 +1,9 @@
-"""Asks an engine for the value, the moves and the line of each position of standard input, and what `stats` counts: python_ask.py plain|LIBRARY FILE"""
+"""Asks an engine for the value, the moves and the line of each position of standard input, and what `stats` counts: python_ask.py pure|LIBRARY FILE"""
 import sys
-from dobutsu import Fault, Table, plain
-library = None if sys.argv[1] == "plain" else sys.argv[1]
+from dobutsu import Fault, Table, pure
+library = None if sys.argv[1] == "pure" else sys.argv[1]
 with Table(sys.argv[2], library) as table:
-    assert table.engine == ("libdobutsu 0.1.0" if library else "plain Python"), table.engine
+    assert table.engine == ("libdobutsu 0.1.0" if library else "pure Python"), table.engine
     for text in sys.stdin.read().split("\n")[:-1]:
         try:
             print(table[text])
@@ -14,8 +14,8 @@ with Table(sys.argv[2], library) as table:
     walked = list(table.positions())
     assert table.probe_many(text for text, _ in walked) == [value for _, value in walked] and len(walked) == len(table)
     for number in range(0, len(walked), max(1, len(walked) // 100)):
-        position = plain.position_at(table.rules, tuple(map(int, table.set)), number)
-        assert walked[number][0] == plain.write_position(position), number
+        position = pure.position_at(table.rules, tuple(map(int, table.set)), number)
+        assert walked[number][0] == pure.write_position(position), number
     stats = table.stats()
     for kind in ("win", "loss", "draw"):
         print(kind, stats.count(kind))

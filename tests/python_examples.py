@@ -2,7 +2,7 @@
 import doctest
 import importlib
 tried = 0
-for name in ("", ".certificate", ".faults", ".library", ".plain", ".position", ".puzzles", ".table", ".tables", ".value"):
+for name in ("", ".certificate", ".faults", ".library", ".pure", ".position", ".puzzles", ".table", ".tables", ".value"):
     ran = doctest.testmod(importlib.import_module("dobutsu" + name))
     assert ran.failed == 0, name
     tried += ran.attempted

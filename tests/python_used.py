@@ -1,14 +1,18 @@
-"""What a program may do with values, tables and positions: python_used.py plain|LIBRARY FILE FOLDER
+"""What a program may do with values, tables and positions: python_used.py pure|LIBRARY FILE FOLDER
 
 FILE is made, of the whole game and all draws; FOLDER has the files of `000` and `100`.
 """
 import copy
 import multiprocessing
+import os
+import pathlib
 import pickle
+import shutil
+import tempfile
 import sys
 import time
 import xml.etree.ElementTree
-from dobutsu import Fault, IllegalMove, MissingTable, Move, Position, Table, Tables, Value, after_move
+from dobutsu import Certificate, Fault, IllegalMove, MissingTable, Move, Position, Table, Tables, Value, after_move
 
 def raises(kind, call, *words):
     try:
@@ -21,7 +25,7 @@ def raises(kind, call, *words):
 def asked(text):
     return table[text], table.moves(text)
 
-library = None if sys.argv[1] == "plain" else sys.argv[1]
+library = None if sys.argv[1] == "pure" else sys.argv[1]
 table = Table("testdata/lions_alone_2.db", library)
 text, far, other = "..l/.../L../... - -", "C.l/.../.../L.. - -", "..l/.../L../... C -"
 
@@ -58,6 +62,9 @@ assert all(each in table for each in table) and table.get(text) == table[Positio
 assert table.get(other) is None and table.get(other, 7) == 7
 raises(TypeError, table.__getitem__, 3)
 raises(TypeError, table.moves, b"..l/.../L../... - -")
+
+for bad in None, 5, b"..l/.../L../... - -", [text]:
+    assert raises(TypeError, Position, bad) == f"no text of a position: {bad!r}"
 
 # texts of any letters
 for bad in ("\ud800", "..l/.../L../... - \udc80", "\udcff" * 19, "\xe9.l/.../L../... - -", "\0", "\N{LION FACE}"):
@@ -115,6 +122,31 @@ raises(MissingTable, Tables(sys.argv[3], "B").__getitem__, text)
 raises(ValueError, Tables, sys.argv[3], "C")
 raises(FileNotFoundError, tables.add, "testdata/none.db")
 assert raises(Fault, tables.add, "README.md") == "E16 Magic"
+
+# a folder where other programs have files: they are left out, and what begins as a table and is none is told by its name
+with tempfile.TemporaryDirectory() as folder:
+    shutil.copy("testdata/lions_alone_2.db", folder)
+    for name, data in ("Thumbs.db", b"\xd0\xcf\x11\xe0" * 9), ("a.db", b"SQLite format 3\0"), ("b.db", b"DOBUCERT" * 9):
+        pathlib.Path(folder, name).write_bytes(data)
+    with Tables(folder, library=library) as some:
+        assert some[text] == Value("win", 3) and some.add(folder) == 1
+    for data, fault in (b"", "E15 Truncated"), (b"DOBU", "E15 Truncated"), (b"DOBUTSU3" + bytes(20), "E16 Magic"), (b"DOBUTSU2\3" + bytes(20), "E17 SetByte"):
+        pathlib.Path(folder, "c.db").write_bytes(data)
+        assert raises(Fault, Tables, folder) == f"{fault}: {pathlib.Path(folder, 'c.db')}"
+
+# a certificate that goes on, or that never ends: no more is read than shows it
+assert raises(Fault, Certificate, "/dev/zero") == "E16 Magic"
+with tempfile.NamedTemporaryFile() as file:
+    file.write(pathlib.Path("testdata/one_chick.cert").read_bytes())
+    file.flush()
+    Certificate(file.name)
+    os.truncate(file.name, 1 << 40)
+    assert raises(Fault, Certificate, file.name) == "E19 Trailing"
+    file.seek(20)
+    file.write((2124).to_bytes(4, "little") * 2)
+    file.flush()
+    os.truncate(file.name, 28)
+    assert raises(Fault, Certificate, file.name) == "E15 Truncated"
 
 # a picture: a group for each piece, those of the other side upside down
 drawn = xml.etree.ElementTree.fromstring(Position("gle/.c./.../ELG C -")._repr_svg_())

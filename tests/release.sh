@@ -23,7 +23,8 @@ cmp -s "$release/chick.db" testdata/one_chick_2.db || same=no
 rm -f "$release/chick.db"
 ! ldd "$release/dobutsu" >"$work/out" 2>&1 || same=no
 for name in README.md docs/{START,USE,FORMAT,RULES,CLASSES,FAULTS,PROOF,RESULTS}.md PROVED 111.db libdobutsu.pc dobutsu.h dobutsu.html libdobutsu.a \
-    libdobutsu.so plain/{README.md,dobutsu_plain.c,dobutsu_plain.h} dobutsu.1 completions/{dobutsu.bash,_dobutsu,dobutsu.fish}; do
+    libdobutsu.so plain/{README.md,dobutsu_plain.c,dobutsu_plain.h,dobutsu_plain_classes.c,dobutsu_plain_classes.h} coq/{README.md,Rules.v,check} \
+    dobutsu.1 completions/{dobutsu.bash,_dobutsu,dobutsu.fish}; do
     [ -s "$release/$name" ] || same=no
 done
 note "the program of the release, unpacked in an empty folder" "$same"
@@ -40,6 +41,17 @@ note "tools/verify-release of a changed archive: $(tail -1 "$work/out")" "$good"
 good=no
 if python3 tests/release_links.py "$release" >"$work/out" 2>&1; then good=yes; fi
 note "the links of the archive's pages: $(head -1 "$work/out")" "$good"
+# What its pages name is there, and README's commands run; a file that is missing and a command that is refused are seen.
+good=no
+if python3 tests/release_named.py "$release" >"$work/out" 2>&1; then good=yes; fi
+note "what the archive's pages name: $(head -1 "$work/out")" "$good"
+for planted in 'rm examples/ask.py' "sed -i 's,lc./.g./.../eL. - -,..l/.../L../... - -,' README.md"; do
+    good=no
+    rm -rf "$work/planted" && cp -r "$release" "$work/planted" && (cd "$work/planted" && eval "$planted")
+    if ! python3 tests/release_named.py "$work/planted" >"$work/out" 2>&1; then good=yes; fi
+    note "what the archive's pages name, after $planted: $(head -1 "$work/out")" "$good"
+done
+rm -rf "$work/planted"
 # Each example is built by the line in its head, in the archive and in a clone with the library beside it.
 mkdir "$work/clone" && cp -r examples include plain "$work/clone" && cp "$release/libdobutsu.a" "$work/clone"
 for folder in "$release" "$work/clone"; do

@@ -11,14 +11,14 @@ import sys
 
 sys.path[:0] = ["python", "tools"]
 from certificates import certificate_bytes
-from dobutsu import plain
+from dobutsu import pure
 
 
 def verdict(data):
     try:
-        plain.Certificate(data).verify()
+        pure.Certificate(data).verify()
         return ""
-    except plain.Fault as fault:
+    except pure.Fault as fault:
         return str(fault)
 
 
@@ -28,7 +28,7 @@ def sealed(contents):
 
 def with_lost(data, lost):
     """The same certificate with other lost classes."""
-    held = plain.Certificate(data).held
+    held = pure.Certificate(data).held
     return certificate_bytes(data[:20], lost, held)
 
 
@@ -37,14 +37,14 @@ def ended_replies(certificate, number):
     profile, found = certificate.profile, set()
     for _turn, outcome in moves_of(certificate, certificate.position_at(number)):
         for _reply, after in moves_of(certificate, outcome):
-            if plain.status(profile, after) == "caught":
-                found.add(plain.class_number(profile, after))
+            if pure.status(profile, after) == "caught":
+                found.add(pure.class_number(profile, after))
     return found
 
 
 def moves_of(certificate, position):
-    status, moves = plain.status_and_moves(certificate.profile, position)
-    return [(move, plain.apply(position, move)) for move in moves] if status == "open" else []
+    status, moves = pure.status_and_moves(certificate.profile, position)
+    return [(move, pure.apply(position, move)) for move in moves] if status == "open" else []
 
 
 def spoilt(data):
@@ -54,7 +54,7 @@ def spoilt(data):
             yield sealed(contents[:place] + bytes([byte]) + contents[place + 1 :])
     for length in range(0, len(data), 9):
         yield data[:length]
-    certificate = plain.Certificate(data)
+    certificate = pure.Certificate(data)
     for number in list(certificate.lost)[:6]:
         others = {entry: plies for entry, plies in certificate.lost.items() if entry != number}
         yield with_lost(data, others)

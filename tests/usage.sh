@@ -116,6 +116,12 @@ misused '<POSITION>' reach --levels
 misused "'b'" reach "$position" --rules b
 misused "'x'" reach "$position" --levels=x
 misused "'--set'" reach --set 000 "$position"
+misused "'--values' needs '--db <FILE>'" reach --values "$position"
+misused "'--values' needs '--db <FILE>'" reach --values --levels --json --rules A "$position"
+misused '<POSITION>' reach --values --db x
+misused "'x'" reach "$position" --db x --values=x
+misused '--values' reach "$position" --values --db x --values
+misused '--json' reach "$position" --json --json
 misused '--out <OUT>' migrate --db x
 misused '--db <FILE>' migrate --out x
 misused "'a'" migrate --db x --out y a
@@ -147,6 +153,33 @@ expect 2 '' "error: invalid value '-' for '--out <FILE>': it names a stream, not
 
 For more information, try '--help'." build --set 000 --out -
 misused "'-' for '--out <FILE>'" build --set 3 --nodes 0 --out -
+# What a word has that does something to a terminal is shown by its bytes.
+misused "'\\x1b[31m\\n\\xc2\\x9b2J'" build --set 000 --out "$work/none.db" --nodes $'\e[31m\n\u009b2J'
+misused '\xe2\x80\xae' $'\u202ebuild' --set 000
+# By any other name a stream is refused too, and so is a file that is read: nothing is written, and nothing is lost.
+misplaced='error: the file to be made is the one that is read, or a stream of the program'
+lost() {
+    local status=0 good=no
+    "$program" "$@" </dev/null >"$work/streamed" 2>"$work/err" || status=$?
+    if [ "$status" = 2 ] && [ ! -s "$work/streamed" ] && [ "$(head -1 "$work/err")" = "$misplaced" ] && cmp -s "$lions_2" "$work/read.db" &&
+        [ ! -e "$work/read.db.part" ]; then good=yes; fi
+    note "./dobutsu $(printf '%q ' "$@"): status $status, $(head -1 "$work/err")" "$good"
+}
+cp "$lions_2" "$work/read.db"
+ln "$work/read.db" "$work/hard.db"
+ln -s "$work/read.db" "$work/soft.db"
+ln -s /dev/stdout "$work/stream.db"
+for name in //dev/stdout /dev/../dev/stdout /dev/./fd/1 /proc/thread-self/fd/1 /proc/self/task/../fd/1 //dev/stderr "$work/streamed" "$work/stream.db"; do
+    lost build --set 000 --out "$name"
+    lost migrate --db "$work/read.db" --out "$name"
+    lost certify --db "$work/read.db" --out "$name" "$position"
+    lost show --svg "$name" "$position"
+done
+for name in "$work/read.db" "$work//read.db" "$work/hard.db" "$work/soft.db"; do
+    lost certify --db "$work/read.db" --out "$name" "$position"
+    lost show --db "$work/read.db" --svg "$name" "$position"
+done
+expect 0 '~classes 54' '' build --set 000 --out /dev/null
 helps build build --out - --set 000 --help
 if [ -e ./- ]; then good=no; else good=yes; fi
 note "no file is written by the name of a stream" "$good"

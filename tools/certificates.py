@@ -11,7 +11,7 @@ import struct
 import sys
 
 sys.path.insert(0, str(pathlib.Path(__file__).resolve().parent.parent / "python"))
-from dobutsu import plain  # noqa: E402
+from dobutsu import pure  # noqa: E402
 
 
 def number_bytes(number):
@@ -40,7 +40,7 @@ def certificate_bytes(head, lost, held):
 def joined(paths):
     """A file that claims what the first one does, with the entries of all."""
     files = [path.read_bytes() for path in paths]
-    certificates = [plain.Certificate(data) for data in files]
+    certificates = [pure.Certificate(data) for data in files]
     if len({(it.profile, it.pieces) for it in certificates}) != 1:
         sys.exit("certificates of several sets or profiles")
     lost, held = {}, {}
