@@ -63,12 +63,11 @@ pub use Rattle.dob_pieces.specs.declared.board.Board.{Board}
 pub use Rattle.dob_rank.specs.BoardDigits.{IsShownOfSet}
 pub use Rattle.dob_classes.specs.BlockRows.{IsRow}
 pub use Rattle.dob_classes.specs.FamilyRuns.{IsInRunOf, IsNumbered, classes_before, is_there, local_marks_in, place_of_number, run_size_in}
-pub use Rattle.dob_classes.specs.RunIndex.{AreEntries, IsAtMost}
 pub use Rattle.dob_classes.specs.RunTables.{AreRuns, HasTable, IsRun}
 pub use Rattle.dob_classes.specs.Stretches.{AreStretches, EndsWith, IsStretch, IsWidth, local_marks}
 pub use Rattle.dob_classes.specs.Views.{IsShown, seen_by, seen_hands, seen_owner, seen_square}
 pub use Rattle.dob_classes.specs.Walks.{IsStretchIn, IsWalk, marks_before}
 pub use Rattle.dob_classes.specs.declared.block_classes.BlockClasses.{BlockClasses}
-pub use Rattle.dob_classes.specs.declared.runs.Run.{Run}
+pub use Rattle.dob_classes.specs.declared.runs.FirstRun.{FirstRun}
 pub use Rattle.dob_classes.specs.declared.stretch_tables.StretchTable.{StretchTable}
 pub use Rattle.dob_classes.proofs.OfFamilies.ClassesTo.{classes_to_block, classes_to_place, classes_to_run, classes_to_setup}

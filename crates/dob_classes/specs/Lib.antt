@@ -3,7 +3,6 @@ pub mod Laws
 pub mod Stretches
 pub mod FamilyRuns
 pub mod RunTables
-pub mod RunIndex
 pub mod RunShapes
 pub mod BlockTables
 pub mod BlockRows

@@ -1,20 +1,20 @@
-// The classes of one block of a family: for each of its runs the number of classes before it, and tables of marks for the runs in which the lions don't
-// say which positions are representatives. A run's positions are numbered among those of the family.
+// The classes of one block of a family: for each of the first hand's runs the number of classes in the block before it, and tables of marks for the runs in which
+// the lions don't say which positions are representatives. A run's positions are numbered among those of the family.
 ghost use Rattle.std.specs.Prelude.{◌≡◌, true, ◌<◌, ◌≤◌, ◌+◌, ◌%◌, IfOk, vec_len, ℕ, List};
 ghost use Rattle.dob_rank.specs.Numbers.{product, digits_of, block_bases, block_size, start_of};
 ghost use Rattle.dob_rank.specs.Marks.{marks_below};
 ghost use Rattle.dob_rank.specs.Families.{is_marked};
+ghost use Rattle.dob_classes.specs.BlockRows.{IsRowOf};
 ghost use Rattle.dob_classes.specs.FamilyRuns.{run_size_in, local_marks_in, classes_before, IsNumbered};
-ghost use Rattle.dob_rank.specs.Runs.{square_bases, run_bases, run_digits, runs_in, run_size, run_start, run_kind};
-ghost use Rattle.dob_classes.specs.declared.runs.Run.{Run};
+ghost use Rattle.dob_rank.specs.Runs.{square_bases, run_bases, run_digits, runs_in, run_size, run_start, run_kind, lion_pairs};
+ghost use Rattle.dob_classes.specs.declared.runs.FirstRun.{FirstRun};
 ghost use Rattle.dob_rank.specs.declared.runs.RunKind.TheVariants.{Mixed};
-ghost use Rattle.dob_classes.specs.RunTables.{AreRuns, HasTable};
-ghost use Rattle.dob_classes.specs.RunIndex.{IsRunIndex};
+ghost use Rattle.dob_classes.specs.RunTables.{AreRuns, HasTable, IsRun};
 ghost use Rattle.dob_rank.specs.Placing.{AreAllPlaces};
 
 use crate::place_tables::all_places;
-use crate::run_index::RunIndex;
-use crate::runs::Run;
+use crate::rows::Row;
+use crate::runs::FirstRun;
 use crate::spots::count_before;
 use crate::stretch_tables::StretchTable;
 use dob_pieces::{Family, Memory, Profile};
@@ -29,26 +29,27 @@ use std::alloc::Global;
 pub(crate) struct BlockClasses {
     pub(crate) family: Family,
     pub(crate) number: u64,
-    /// How many classes stand before the block, and how many up to its end.
+    /// How many classes stand before the block, how many up to its end, and how many in the runs of each hand.
     pub(crate) before: u64,
     pub(crate) after: u64,
+    hand: u64,
     /// How many pieces of each kind stand on the board, and in how many ways their squares are chosen.
     pub(crate) on_board: PerKind,
     pub(crate) choices: PerKind,
-    runs: Vec<Run>,
+    /// The runs of the first hand, by their lions.
+    runs: Vec<FirstRun>,
     mixed: Vec<StretchTable>,
-    index: RunIndex,
     /// The places of each choice of squares.
     pub(crate) places: Vec<Places>,
     ghost within: { number < product (block_bases family.set) },
     ghost starts: { before ≡ marks_below (is_marked family) (start_of family.set number) },
     ghost ends: { after ≡ marks_below (is_marked family) (start_of family.set number + block_size family.set number) },
+    ghost hands: { before + hand ≡ marks_below (is_marked family) (run_start family.set number lion_pairs) },
     ghost numbers: { on_board ≡ digits_of (block_bases family.set) number },
     ghost chosen: { choices ≡ square_bases on_board },
-    ghost whole: { vec_len runs ≡ runs_in family.set number },
+    ghost whole: { vec_len runs ≡ lion_pairs },
     ghost table: { AreRuns family number (vec_len runs) runs.items mixed.items },
     ghost placed: { AreAllPlaces on_board places.items },
-    ghost indexed: { IsRunIndex runs.items before after index },
 }
 
 impl BlockClasses {
@@ -69,29 +70,32 @@ impl BlockClasses {
         let size = block::run_size_in(family.set, number);
         let mut runs = Vec::new(alloc);
         let mut mixed = Vec::new(alloc);
-        let mut count = before;
-        for run in 0..block::count_runs(family.set, number) {
-            let table = table_of(alloc, family, number, run, &runs, &mut mixed)?;
-            runs.push(Run {
-                before: count,
+        let mut hand = 0;
+        for lions in 0..LIONS {
+            let table = table_of(alloc, family, number, lions, &mut mixed)?;
+            runs.push(FirstRun {
+                before: hand,
+                kind: kind_of(lions),
                 table,
-                kind: kind_of(run % LIONS),
-                digits: block::run_digits_in(family.set, &on_board, run),
             })?;
-            count += count_marks(family, number, run, size, table, &mixed);
+            hand += count_marks(family, number, lions, size, table, &mixed);
         }
         let places = all_places(alloc, &on_board, &choices)?;
-        let index = RunIndex::open(alloc, &runs, size, before, count)?;
+        let row = Row {
+            before,
+            hand,
+            run: 0,
+        };
         Ok(BlockClasses {
             family,
             number,
             before,
-            after: count,
+            after: row.before_run(block::count_runs(family.set, number)),
+            hand,
             on_board,
             choices,
             runs,
             mixed,
-            index,
             places,
         })
     }
@@ -103,13 +107,14 @@ impl BlockClasses {
         ensures mark { result.0 ≡ local_marks_in self.now.family self.now.number spot.run spot.local }
         ensures before { result.1 ≡ classes_before self.now.family self.now.number spot.run spot.local }
     {
-        let run = self.runs[spot.run as usize];
-        match self.kind_of(spot.run) {
-            RunKind::First => (true, run.before + spot.local),
-            RunKind::Later => (false, run.before),
+        let before = self.row_of(spot.run).before_run(spot.run);
+        let run = self.first_run(spot.run);
+        match run.kind {
+            RunKind::First => (true, before + spot.local),
+            RunKind::Later => (false, before),
             RunKind::Mixed => {
                 let (is_marked, marks) = self.mixed[run.table].look_up(spot.local);
-                (is_marked, run.before + marks)
+                (is_marked, before + marks)
             }
         }
     }
@@ -124,45 +129,81 @@ impl BlockClasses {
         ensures mark { is_marked self.now.family (run_start self.now.family.set self.now.number result.run + result.local) ≡ true }
         ensures class { marks_below (is_marked self.now.family) (run_start self.now.family.set self.now.number result.run + result.local) ≡ class }
     {
-        let run = self.run_at(class);
-        let number = self.number_at(run, class - self.before_run(run));
+        let (run, left) = self.run_at(class);
+        let number = self.number_at(run, left);
         Spot {
             run,
             local: self.place_at(run, number),
         }
     }
 
-    // The run in which that representative stands: the last one with no more of them before it.
-    fn run_at(&self, class: u64) -> u64
+    // The run in which that representative stands, and how many others stand before it there: the hand by a division, the lions by a search.
+    fn run_at(&self, class: u64) -> (u64, u64)
         requires low { self.now.before ≤ class }
         requires high { class < self.now.after }
-        ensures run { result < runs_in self.now.family.set self.now.number }
-        ensures low { marks_below (is_marked self.now.family) (run_start self.now.family.set self.now.number result) ≤ class }
-        ensures high { class < marks_below (is_marked self.now.family) (run_start self.now.family.set self.now.number (result + 1)) }
+        ensures run { result.0 < runs_in self.now.family.set self.now.number }
+        ensures left { marks_below (is_marked self.now.family) (run_start self.now.family.set self.now.number result.0) + result.1 ≡ class }
+        ensures high { class < marks_below (is_marked self.now.family) (run_start self.now.family.set self.now.number (result.0 + 1)) }
     {
-        self.index.run_at(&self.runs, self.before, class) as u64
+        let of_block = class - self.before;
+        let of_hand = of_block % self.hand;
+        let lions = self.lions_at(of_hand);
+        let before = self.before_lions(lions);
+        (of_block / self.hand * LIONS + lions, of_hand - before)
     }
 
-    // How many classes stand before a run.
-    fn before_run(&self, run: u64) -> u64
-        requires { run < runs_in self.now.family.set self.now.number }
-        ensures { result ≡ marks_below (is_marked self.now.family) (run_start self.now.family.set self.now.number run) }
+    // The lions of the first hand's run in which the representative with `left` others before it in the block stands.
+    fn lions_at(&self, left: u64) -> u64
+        requires { left < self.now.hand }
+        ensures lions { result < lion_pairs }
+        ensures low { marks_below (is_marked self.now.family) (run_start self.now.family.set self.now.number result) ≤ self.now.before + left }
+        ensures high { self.now.before + left < marks_below (is_marked self.now.family) (run_start self.now.family.set self.now.number (result + 1)) }
     {
-        self.runs[run as usize].before
+        let mut low = 0;
+        let mut high = LIONS;
+        while 1 < high - low {
+            let middle = low + (high - low) / 2;
+            if self.before_lions(middle) <= left {
+                low = middle;
+            } else {
+                high = middle;
+            }
+        }
+        low
     }
 
-    fn kind_of(&self, run: u64) -> RunKind
-        requires { run < runs_in self.now.family.set self.now.number }
-        ensures { result ≡ run_kind (run % LIONS) }
+    // How many classes of the block stand before the first hand's run of those lions.
+    fn before_lions(&self, lions: u64) -> u64
+        requires { lions < lion_pairs }
+        ensures { self.now.before + result ≡ marks_below (is_marked self.now.family) (run_start self.now.family.set self.now.number lions) }
     {
-        self.runs[run as usize].kind
+        self.runs[lions as usize].before
+    }
+
+    // What the block's row says of a run.
+    fn row_of(&self, run: u64) -> Row
+        requires { run < runs_in self.now.family.set self.now.number }
+        ensures { IsRowOf self.now.family self.now.number run result }
+    {
+        Row {
+            before: self.before,
+            hand: self.hand,
+            run: self.first_run(run).before,
+        }
+    }
+
+    // The first hand's run of the same lions.
+    fn first_run(&self, run: u64) -> FirstRun
+        ensures { IsRun self.now.family self.now.number (run % lion_pairs) self.now.mixed.items result }
+    {
+        self.runs[(run % LIONS) as usize]
     }
 
     pub(crate) fn digits_of(&self, run: u64) -> RunDigits
         requires { run < runs_in self.now.family.set self.now.number }
         ensures { run_digits result ≡ digits_of (run_bases self.now.family.set self.now.on_board) run }
     {
-        self.runs[run as usize].digits
+        block::run_digits_in(self.family.set, &self.on_board, run)
     }
 
     // The number of the representative with `left` others before it in its run.
@@ -174,11 +215,9 @@ impl BlockClasses {
         ensures mark { local_marks_in self.now.family self.now.number run result ≡ true }
         ensures left { marks_below (local_marks_in self.now.family self.now.number run) result ≡ left }
     {
-        match self.kind_of(run) {
-            RunKind::Mixed => {
-                let entry = self.runs[run as usize];
-                self.mixed[entry.table].number_at(left)
-            }
+        let first = self.first_run(run);
+        match first.kind {
+            RunKind::Mixed => self.mixed[first.table].number_at(left),
             // Its lions say that each of its positions is one, since there is one.
             _ => left,
         }
@@ -197,7 +236,7 @@ impl BlockClasses {
     }
 }
 
-// The number of a run's table, which is made for the first run of its lions; none is needed where these say its marks.
+// The number of the table of the first hand's run of those lions; none is needed where these say its marks.
 //
 // # Errors
 //
@@ -206,30 +245,23 @@ fn table_of(
     alloc: Global,
     family: Family,
     block: u64,
-    run: u64,
-    runs: &Vec<Run>,
+    lions: u64,
     mixed: &mut Vec<StretchTable>,
 ) -> Result<usize, Memory>
     requires block { block < product (block_bases family.set) }
-    requires run { run < runs_in family.set block }
-    requires runs { AreRuns family block run runs.now.items mixed.old.items }
-    ensures table { IfOk result (λ table. HasTable family block run table mixed.new.items) }
-    ensures runs { IfOk result (λ _. AreRuns family block run runs.now.items mixed.new.items) }
+    requires lions { lions < lion_pairs }
+    ensures table { IfOk result (λ table. HasTable family block lions table mixed.new.items) }
+    ensures runs { (count : ℕ) (runs : List FirstRun) → AreRuns family block count runs mixed.old.items
+        → IfOk result (λ _. AreRuns family block count runs mixed.new.items) }
 {
-    match kind_of(run % LIONS) {
+    match kind_of(lions) {
         RunKind::First => Ok(0),
         RunKind::Later => Ok(0),
-        RunKind::Mixed => {
-            if LIONS <= run {
-                Ok(runs[(run % LIONS) as usize].table)
-            } else {
-                push_table(alloc, family, block, run, mixed)
-            }
-        }
+        RunKind::Mixed => push_table(alloc, family, block, lions, mixed),
     }
 }
 
-// Appends the table of the first run of its lions.
+// Appends the table of such a run.
 //
 // # Errors
 //
@@ -238,40 +270,39 @@ fn push_table(
     alloc: Global,
     family: Family,
     block: u64,
-    run: u64,
+    lions: u64,
     mixed: &mut Vec<StretchTable>,
 ) -> Result<usize, Memory>
     requires block { block < product (block_bases family.set) }
-    requires run { run < runs_in family.set block }
-    requires first { run < LIONS }
-    requires kind { run_kind (run % LIONS) ≡ Mixed }
-    ensures table { IfOk result (λ table. HasTable family block run table mixed.new.items) }
-    ensures runs { (count : ℕ) (runs : List Run) → AreRuns family block count runs mixed.old.items
+    requires lions { lions < lion_pairs }
+    requires kind { run_kind lions ≡ Mixed }
+    ensures table { IfOk result (λ table. HasTable family block lions table mixed.new.items) }
+    ensures runs { (count : ℕ) (runs : List FirstRun) → AreRuns family block count runs mixed.old.items
         → IfOk result (λ _. AreRuns family block count runs mixed.new.items) }
 {
     let number = mixed.len();
-    let table = StretchTable::open(alloc, family, block, run)?;
+    let table = StretchTable::open(alloc, family, block, lions)?;
     mixed.push(table)?;
     Ok(number)
 }
 
-// How many classes a run of `size` places with that table has.
+// How many classes the first hand's run of those lions has, of `size` places and with that table.
 fn count_marks(
     family: Family,
     block: u64,
-    run: u64,
+    lions: u64,
     size: u64,
     table: usize,
     mixed: &Vec<StretchTable>,
 ) -> u64
     requires block { block < product (block_bases family.set) }
-    requires run { run < runs_in family.set block }
+    requires lions { lions < lion_pairs }
     requires size { size ≡ run_size family.set block }
-    requires table { HasTable family block run table mixed.now.items }
-    ensures { marks_below (is_marked family) (run_start family.set block run) + result ≡ marks_below (is_marked family) (run_start family.set block (run + 1)) }
+    requires table { HasTable family block lions table mixed.now.items }
+    ensures { marks_below (is_marked family) (run_start family.set block lions) + result ≡ marks_below (is_marked family) (run_start family.set block (lions + 1)) }
 {
-    match kind_of(run % LIONS) {
-        RunKind::First => count_before(family, block, run, size),
+    match kind_of(lions) {
+        RunKind::First => count_before(family, block, lions, size),
         RunKind::Later => 0,
         RunKind::Mixed => mixed[table].count,
     }

@@ -27,7 +27,6 @@ pub mod laws;
 mod place_tables;
 mod representatives;
 mod rows;
-mod run_index;
 mod run_shapes;
 mod runs;
 mod spots;

@@ -1,13 +1,11 @@
-// What the classes of a block keep of each of its runs.
+// What the classes of a block keep of the runs of its first hand, from which those of the other hands differ in nothing but what stands before.
 
-use dob_rank::runs::{RunDigits, RunKind};
+use dob_rank::runs::RunKind;
 
-/// A run of positions: the number of classes before it, the number of its table of stretches if its kind is mixed, and that kind and the
-/// run's digits, so that a look-up needs no division for them.
+/// A run of the first hand: the number of classes in the block before it, its kind, and the number of its table of stretches if it is mixed.
 #[derive(Clone, Copy)]
-pub(crate) struct Run {
+pub(crate) struct FirstRun {
     pub(crate) before: u64,
-    pub(crate) table: usize,
     pub(crate) kind: RunKind,
-    pub(crate) digits: RunDigits,
+    pub(crate) table: usize,
 }

@@ -74,29 +74,21 @@ place_of_far family block run number place ob at b ob_is found =
     }
 
 -- ---- the representative of a class in its run
-pub left_in_run : (family : Family) (block run before class : ℕ) → before ≡ classes_to_run family block run → classes_to_run family block run ≤ class
-    → class < classes_to_run family block (run + 1) → classes_to_run family block run + (class - before) < classes_to_run family block (run + 1)
-left_in_run family block run before class is low high = omega (arith, is, low, high)
-
 pub record IsRepresentativeAt (family : Family) (block run local class : ℕ) : Type 0 where
   pub local_below : local < run_size family.set block
   pub mark_is : is_marked family (run_start family.set block run + local) ≡ true
   pub class_is : classes_to_place family block run local ≡ class
 
-pub representative_at : (family : Family) (block run number place before class : ℕ) → IsNumbered family block run number place
-    → local_marks_in family block run number ≡ true → marks_below (local_marks_in family block run) number ≡ class - before
-    → before ≡ classes_to_run family block run → classes_to_run family block run ≤ class → IsRepresentativeAt family block run place class
-representative_at family block run number place before class at on left before_is low =
+pub representative_at : (family : Family) (block run number place left class : ℕ) → IsNumbered family block run number place
+    → local_marks_in family block run number ≡ true → marks_below (local_marks_in family block run) number ≡ left
+    → classes_to_run family block run + left ≡ class → IsRepresentativeAt family block run place class
+representative_at family block run number place left class at on left_is sum =
     let by = mark_of_number family block run number place at in
-    let sum = by.before_is in
     record {
       local_below = at.in_run.local_below;
       mark_is = sym by.mark_is ∙ on;
-      class_is = sym sum ∙ whole (classes_to_run family block run) (marks_below (local_marks_in family block run) number) left before_is low;
+      class_is = sym by.before_is ∙ ap (λ n. classes_to_run family block run + n) left_is ∙ sum;
     }
-  where
-    whole : (first marks : ℕ) → marks ≡ class - before → before ≡ first → first ≤ class → first + marks ≡ class
-    whole first marks e f h = omega (arith, e, f, h)
 
 -- ---- the block of a position
 

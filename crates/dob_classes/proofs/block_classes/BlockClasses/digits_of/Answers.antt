@@ -1,10 +1,9 @@
--- The run's entry has them.
-use Rattle.dob_classes.proofs.Common.{◌∙◌, ap, sym, digits_of, run_bases}
-use Rattle.dob_classes.proofs.Tables.RunTables.{entry_in}
+-- The block has the numbers on the board.
+use Rattle.dob_classes.proofs.Common.{HasDigits-numbers, run_in_bases}
 use Rattle.dob_classes.proofs.block_classes.BlockClasses.digits_of.Goals as goal
 
-pub returns : goal.returns
-returns c =
-    let block = c.args.self.now in
-    (entry_in block c.args.run c.index.result.now c.requires c.index.ensures).digits_are
-    ∙ ap (λ ob. digits_of (run_bases block.family.set ob) c.args.run) (sym block.numbers)
+pub run_digits_in-requires : goal.run_digits_in-requires
+run_digits_in-requires c = (let block = c.args.self.now in record {
+  on_board = HasDigits-numbers block.family.set block.number block.on_board block.within block.numbers;
+  run = run_in_bases block.family.set block.number c.args.run block.on_board block.numbers c.requires;
+})

@@ -1,6 +1,6 @@
 -- In a mixed run its table has the number, in another one it is that of those left.
 use Rattle.std.proofs.Common.{arith, sym, ◌∙◌}
-use Rattle.dob_classes.proofs.Tables.RunTables.{IsTableFor, entry_in, table_for, lions_left, table_left, mixed_left}
+use Rattle.dob_classes.proofs.Tables.RunTables.{IsTableFor, table_for, lions_left, table_left, mixed_left}
 use Rattle.dob_classes.proofs.block_classes.BlockClasses.number_at.Goals as goal
 use Rattle.dob_classes.proofs.block_classes.BlockClasses.number_at.Goals.{After-index}
 
@@ -8,24 +8,20 @@ pub returns-in_default : goal.returns-in_default
 returns-in_default c =
     let block = c.args.self.now in
     let found = lions_left block.family block.number c.args.run c.args.left block.within c.requires.run c.requires.left
-    (λ is. c.in_default.not-Mixed (c.kind_of.ensures ∙ is)) in
+    (λ is. c.in_default.not-Mixed (c.first_run-first.ensures.kind_is ∙ is)) in
     record { number = found.number_below; mark = found.mark_is; left = found.left_is }
-
-pub index-entry-requires : goal.index-entry-requires
-index-entry-requires c = (let block = c.args.self.now in omega (arith, c.requires.run, block.whole))
 
 pub index-requires : goal.index-requires
 index-requires c =
-    let block = c.args.self.now in
-    let is = entry_in block c.args.run c.index-entry.result.now c.requires.run c.index-entry.ensures in
-    omega (arith, (is.table_is (sym c.kind_of.ensures ∙ c.in-Mixed.is)).0, block.mixed.ok)
+    let first = c.first_run-first.ensures in
+    omega (arith, (first.table_is (sym first.kind_is ∙ c.in-Mixed.is)).0, c.args.self.now.mixed.ok)
 
 table : (c : After-index) → IsTableFor c.args.self.now.family c.args.self.now.number c.args.run c.index.result.now
 table c =
     let block = c.args.self.now in
-    let is = entry_in block c.args.run c.index-entry.result.now c.requires.run c.index-entry.ensures in
-    table_for block.family block.number c.args.run block.within c.requires.run _ block.mixed.items _ is.table_is
-    (sym c.kind_of.ensures ∙ c.in-Mixed.is) c.index.ensures
+    let first = c.first_run-first.ensures in
+    table_for block.family block.number c.args.run block.within c.requires.run _ block.mixed.items _ first.table_is (sym first.kind_is ∙ c.in-Mixed.is)
+    c.index.ensures
 
 pub number_at-requires : goal.number_at-requires
 number_at-requires c =
