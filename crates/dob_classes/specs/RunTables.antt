@@ -6,8 +6,10 @@ use Rattle.dob_rank.specs.declared.runs.RunKind.TheVariants.{Mixed}
 use Rattle.dob_classes.specs.declared.stretch_tables.StretchTable.{StretchTable}
 use Rattle.dob_rank.specs.Marks.{marks_below}
 use Rattle.dob_rank.specs.Families.{is_marked}
-use Rattle.dob_rank.specs.Numbers.{start_of}
-use Rattle.dob_rank.specs.Runs.{run_start, run_kind}
+use Rattle.dob_rank.specs.Numbers.{digits_of, start_of}
+use Rattle.dob_rank.specs.Runs.{run_bases, run_digits, run_start, run_kind}
+use Rattle.dob_rank.specs.declared.runs.RunDigits.{RunDigits}
+use Rattle.dob_pieces.specs.declared.piece_set.PieceSet.{PieceSet}
 
 -- the stretches of the first hand's run of those lions
 pub record IsTableOfRun (family : Family) (block lions : ℕ) (table : StretchTable) : Type 0 where
@@ -30,3 +32,8 @@ pub record IsRun (family : Family) (block lions : ℕ) (tables : List StretchTab
 pub record AreRuns (family : Family) (block count : ℕ) (runs : List FirstRun) (tables : List StretchTable) : Type 0 where
   pub long : length runs ≡ count
   pub each : (lions : ℕ) (other : FirstRun) → lions < count → IsRun family block lions tables (slice_index_or runs lions other)
+
+-- the digits of the first runs of a block of those numbers on the board
+pub record AreDigits (set : PieceSet) (ob : List ℕ) (count : ℕ) (digits : List RunDigits) : Type 0 where
+  pub long : length digits ≡ count
+  pub each : (run : ℕ) (other : RunDigits) → run < count → run_digits (slice_index_or digits run other) ≡ digits_of (run_bases set ob) run

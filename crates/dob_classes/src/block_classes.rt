@@ -9,7 +9,7 @@ ghost use Rattle.dob_classes.specs.FamilyRuns.{run_size_in, local_marks_in, clas
 ghost use Rattle.dob_rank.specs.Runs.{square_bases, run_bases, run_digits, runs_in, run_size, run_start, run_kind, lion_pairs};
 ghost use Rattle.dob_classes.specs.declared.runs.FirstRun.{FirstRun};
 ghost use Rattle.dob_rank.specs.declared.runs.RunKind.TheVariants.{Mixed};
-ghost use Rattle.dob_classes.specs.RunTables.{AreRuns, HasTable, IsRun};
+ghost use Rattle.dob_classes.specs.RunTables.{AreDigits, AreRuns, HasTable, IsRun};
 ghost use Rattle.dob_rank.specs.Placing.{AreAllPlaces};
 
 use crate::place_tables::all_places;
@@ -17,7 +17,7 @@ use crate::rows::Row;
 use crate::runs::FirstRun;
 use crate::spots::count_before;
 use crate::stretch_tables::StretchTable;
-use dob_pieces::{Family, Memory, Profile};
+use dob_pieces::{Family, Memory, PieceSet, Profile};
 use dob_rank::block::{self, PerKind};
 use dob_rank::far_places::local_at;
 use dob_rank::placing::Places;
@@ -39,6 +39,8 @@ pub(crate) struct BlockClasses {
     /// The runs of the first hand, by their lions.
     runs: Vec<FirstRun>,
     mixed: Vec<StretchTable>,
+    /// The digits of all runs, so that none needs a division.
+    digits: Vec<RunDigits>,
     /// The places of each choice of squares.
     pub(crate) places: Vec<Places>,
     ghost within: { number < product (block_bases family.set) },
@@ -49,6 +51,8 @@ pub(crate) struct BlockClasses {
     ghost chosen: { choices ≡ square_bases on_board },
     ghost whole: { vec_len runs ≡ lion_pairs },
     ghost table: { AreRuns family number (vec_len runs) runs.items mixed.items },
+    ghost each: { vec_len digits ≡ runs_in family.set number },
+    ghost told: { AreDigits family.set on_board (vec_len digits) digits.items },
     ghost placed: { AreAllPlaces on_board places.items },
 }
 
@@ -80,6 +84,7 @@ impl BlockClasses {
             })?;
             hand += count_marks(family, number, lions, size, table, &mixed);
         }
+        let digits = all_digits(alloc, family.set, number, &on_board)?;
         let places = all_places(alloc, &on_board, &choices)?;
         let row = Row {
             before,
@@ -96,6 +101,7 @@ impl BlockClasses {
             choices,
             runs,
             mixed,
+            digits,
             places,
         })
     }
@@ -160,14 +166,15 @@ impl BlockClasses {
         ensures high { self.now.before + left < marks_below (is_marked self.now.family) (run_start self.now.family.set self.now.number (result + 1)) }
     {
         let mut low = 0;
-        let mut high = LIONS;
-        while 1 < high - low {
-            let middle = low + (high - low) / 2;
+        // Among how many runs from there on it is. No step's length depends on what was found, so the compiler writes all steps out.
+        let mut runs = LIONS;
+        while 1 < runs {
+            let half = runs / 2;
+            let middle = low + half;
             if self.before_lions(middle) <= left {
                 low = middle;
-            } else {
-                high = middle;
             }
+            runs -= half;
         }
         low
     }
@@ -203,7 +210,7 @@ impl BlockClasses {
         requires { run < runs_in self.now.family.set self.now.number }
         ensures { run_digits result ≡ digits_of (run_bases self.now.family.set self.now.on_board) run }
     {
-        block::run_digits_in(self.family.set, &self.on_board, run)
+        self.digits[run as usize]
     }
 
     // The number of the representative with `left` others before it in its run.
@@ -234,6 +241,29 @@ impl BlockClasses {
             Profile::B => local_at(&self.on_board, run % LIONS, number),
         }
     }
+}
+
+// The digits of each run of the block.
+//
+// # Errors
+//
+// `Memory`.
+fn all_digits(
+    alloc: Global,
+    set: PieceSet,
+    block: u64,
+    on_board: &PerKind,
+) -> Result<Vec<RunDigits>, Memory>
+    requires block { block < product (block_bases set) }
+    requires on_board { on_board.now ≡ digits_of (block_bases set) block }
+    ensures long { IfOk result (λ digits. vec_len digits ≡ runs_in set block) }
+    ensures digits { IfOk result (λ digits. AreDigits set on_board.now (vec_len digits) digits.items) }
+{
+    let mut digits = Vec::new(alloc);
+    for run in 0..block::count_runs(set, block) {
+        digits.push(block::run_digits_in(set, on_board, run))?;
+    }
+    Ok(digits)
 }
 
 // The number of the table of the first hand's run of those lions; none is needed where these say its marks.

@@ -1,5 +1,7 @@
 -- The run in which the representative of a class stands: its hand by a division, since each hand has as many, and its lions among the first hand's.
 use Rattle.dob_classes.proofs.Common.{◌%◌, ◌*◌, ◌+◌, ◌-◌, ◌/◌, ◌<◌, ◌∙◌, ◌≡◌, ◌≤◌, ap, arith, refl, subst, sym, ℕ, div-add-mod', div-mul-add, div_below, Family}
+use Rattle.dob_classes.proofs.Common.{is_marked, marks_below-upto, mul-le-mul_right, run_size, run_start}
+use Rattle.dob_rank.proofs.InRuns.RunPlaces.{run_start-is}
 use Rattle.dob_classes.proofs.Common.{mod-mul-add, mod_below, block_bases, digits_of, lion_pairs, product, runs_in, classes_to_block, classes_to_run}
 use Rattle.dob_rank.proofs.Arithmetic.MixedRadix.{factor_positive}
 use Rattle.dob_rank.proofs.InRuns.RunSums.{lions_there, runs_by_hand}
@@ -59,6 +61,14 @@ module _ (family : Family) (block hands before hand class : ℕ) (within : block
             left_is = left_is;
             high = omega (arith, left_is, more, same, one, upto, from, first_is, before_is);
           }
+
+-- ---- later runs
+pub classes_rise : (family : Family) (block run later : ℕ) → run ≤ later → classes_to_run family block run ≤ classes_to_run family block later
+classes_rise family block run later upto =
+    let size = run_size family.set block in
+    let times : run * size ≤ later * size = mul-le-mul_right size upto in
+    marks_below-upto (is_marked family) (run_start family.set block run) (run_start family.set block later)
+    (omega (arith, run_start-is family.set block run, run_start-is family.set block later, times))
 
 -- ---- the end of the last run
 pub row_at_end : (family : Family) (block runs before hand : ℕ) → block < product (block_bases family.set) → runs ≡ runs_in family.set block

@@ -62,6 +62,8 @@ invariant_of-result c =
       numbers = c.numbers_in-on_board.ensures;
       chosen = c.choices_in-choices.ensures;
       whole = long ∙ whole;
+      each = c.in_ok-digits.ensures.long;
+      told = c.in_ok-digits.ensures.digits;
       placed = c.in_ok-places.ensures;
       table = subst (λ n. AreRuns c.args.family c.args.number n c.loop-lions.runs.items c.loop-lions.mixed.items) (sym long) c.loop-lions.invariant.runs_are;
     }
