@@ -1,12 +1,12 @@
 // The classes of one block of a family: for each of the first hand's runs the number of classes in the block before it, and tables of marks for the runs in which
 // the lions don't say which positions are representatives. A run's positions are numbered among those of the family.
-ghost use Rattle.std.specs.Prelude.{◌≡◌, true, ◌<◌, ◌≤◌, ◌+◌, ◌%◌, IfOk, vec_len, ℕ, List};
-ghost use Rattle.dob_rank.specs.Numbers.{product, digits_of, block_bases, block_size, start_of};
+ghost use Rattle.std.specs.Prelude.{◌≡◌, true, ◌<◌, ◌≤◌, ◌+◌, ◌*◌, ◌%◌, IfOk, vec_len, ℕ, List};
+ghost use Rattle.dob_rank.specs.Numbers.{product, digits_of, bases_by, block_bases, block_size, start_of};
 ghost use Rattle.dob_rank.specs.Marks.{marks_below};
 ghost use Rattle.dob_rank.specs.Families.{is_marked};
 ghost use Rattle.dob_classes.specs.BlockRows.{IsRowOf};
 ghost use Rattle.dob_classes.specs.FamilyRuns.{run_size_in, local_marks_in, classes_before, IsNumbered};
-ghost use Rattle.dob_rank.specs.Runs.{square_bases, run_bases, run_digits, runs_in, run_size, run_start, run_kind, lion_pairs};
+ghost use Rattle.dob_rank.specs.Runs.{square_bases, local_bases, run_bases, run_digits, runs_in, run_size, run_start, run_kind, lion_pairs};
 ghost use Rattle.dob_classes.specs.declared.runs.FirstRun.{FirstRun};
 ghost use Rattle.dob_rank.specs.declared.runs.RunKind.TheVariants.{Mixed};
 ghost use Rattle.dob_classes.specs.RunTables.{AreDigits, AreRuns, HasTable, IsRun};
@@ -18,7 +18,7 @@ use crate::runs::FirstRun;
 use crate::spots::count_before;
 use crate::stretch_tables::StretchTable;
 use dob_pieces::{Family, Memory, PieceSet, Profile};
-use dob_rank::block::{self, PerKind};
+use dob_rank::block::{self, DIGITS, PerKind};
 use dob_rank::far_places::local_at;
 use dob_rank::placing::Places;
 use dob_rank::runs::{LIONS, RunDigits, RunKind, Spot, kind_of};
@@ -206,7 +206,18 @@ impl BlockClasses {
         self.runs[(run % LIONS) as usize]
     }
 
-    pub(crate) fn digits_of(&self, run: u64) -> RunDigits
+    /// The digits of the position at that spot.
+    #[inline(always)]
+    pub(crate) fn digits_at(&self, spot: Spot) -> [u64; DIGITS]
+        requires run { spot.run < runs_in self.now.family.set self.now.number }
+        requires local { spot.local < run_size self.now.family.set self.now.number }
+        ensures { result ≡ digits_of (bases_by self.now.family.set self.now.on_board) (spot.run * product (local_bases self.now.on_board) + spot.local) }
+    {
+        let run = self.digits_of(spot.run);
+        block::digits_with(self.family.set, &self.on_board, &self.choices, run, spot)
+    }
+
+    fn digits_of(&self, run: u64) -> RunDigits
         requires { run < runs_in self.now.family.set self.now.number }
         ensures { run_digits result ≡ digits_of (run_bases self.now.family.set self.now.on_board) run }
     {

@@ -14,7 +14,7 @@ use crate::block_classes::BlockClasses;
 use crate::spots::spot_in;
 use dob_pieces::{Board, Family, Memory, Position, Side};
 use dob_rank::block;
-use dob_rank::set_ranks::{hands_of, position_by};
+use dob_rank::set_ranks::{hands_of, setup_of};
 use std::alloc::Global;
 
 /// The classes of a family, each with its number.
@@ -115,12 +115,8 @@ impl Classes {
         ensures setup { result.setup ≡ class_setup self.now.family class }
     {
         let block = self.block_of(class);
-        position_by(
-            self.family.set,
-            &block.on_board,
-            &block.choices,
-            block.spot_at(class),
-        )
+        let digits = block.digits_at(block.spot_at(class));
+        Position::new(setup_of(block.family.set, &block.on_board, &digits))
     }
 
     /// The board that the side sees of the representative of the class of that number: the mover as it stands, the enemy turned. No list of cells is made.
@@ -131,11 +127,9 @@ impl Classes {
     {
         let block = self.block_of(class);
         let spot = block.spot_at(class);
-        let run = block.digits_of(spot.run);
-        let set = self.family.set;
-        let digits = block::digits_with(set, &block.on_board, &block.choices, run, spot);
+        let digits = block.digits_at(spot);
         let squares = block::squares_at(&block.on_board, spot.local);
-        let hands = hands_of(set, &block.on_board, &digits);
+        let hands = hands_of(self.family.set, &block.on_board, &digits);
         let places = &block.places[squares as usize];
         bits_by(side, &block.on_board, &digits, places, hands)
     }
