@@ -1,61 +1,76 @@
 // The reference program of predecessors: each way back square by square, as the definitions go, and the setup before each made anew.
-ghost use Rattle.std.specs.Prelude.{◌≡◌, ◌<◌, ℕ, IfOk, MatchOption};
+ghost use Rattle.std.specs.Prelude.{◌≡◌, ◌<◌, ℕ, IfOk, MatchOption, OnOk};
 ghost use Rattle.dob_pieces.specs.declared.profile.Profile.TheVariants.{A};
 ghost use Rattle.dob_pieces.specs.declared.setup.Setup.{Setup};
+ghost use Rattle.dob_moves.specs.declared.position_status.Status.TheVariants.{Open};
+ghost use Rattle.dob_moves.specs.Statuses.{HasStatus};
 ghost use Rattle.dob_rank.specs.Families.{IsPositionOf};
 ghost use Rattle.dob_rank.specs.Families.{classes_of};
 ghost use Rattle.dob_unmove.specs.declared.undo.RetroMove.{RetroMove};
-ghost use Rattle.dob_unmove.specs.Undoes.{CanUndo, earlier};
+ghost use Rattle.dob_unmove.specs.Undoes.{earlier};
 ghost use Rattle.dob_unmove.specs.Unmoves.{CountEdges, ArePredecessors};
 ghost use Rattle.dob_unmove.specs.Edges.{predecessors};
 ghost use Rattle.dob_unmove.specs.Classes.{IsSeenTurned, RepresentsClass};
-ghost use Rattle.dob_unmove.specs.Gathers.{Finds, Adds};
+ghost use Rattle.dob_unmove.specs.Gathers.{AddsClasses, Appends};
 ghost use Rattle.dob_unmove.specs.Threats.{IsThreat};
 
-use crate::earlier::open_before;
+use crate::earlier::position_before;
 use crate::walk::{Taker, take_all};
 use dob_classes::Classes;
 use dob_pieces::{Board, Memory, Position, Setup};
-use dob_unmove::{RetroMove, Threat, may_give_back};
+use dob_unmove::{RetroMove, Threat};
 
-// What finds classes: their numbering, and the threat to the enemy lion in the setup from which ways back are taken.
+// What finds classes: their numbering, the threat to the enemy lion in the setup from which ways back are taken, and whether the representative whose setup
+// that is after the moves is its own mirror image: then mirror images of what stood before don't count.
 #[derive(Drop)]
 struct Finder<'a> {
     classes: &'a Classes,
     threat: Threat,
+    is_own_image: bool,
 }
 
 impl Taker for Finder<'_> {
     ghost suits = { λ after finder. IsSeenTurned (IsPositionOf finder.classes.now.family) after × IsThreat after finder.threat };
 
-    ghost takes = { λ after finder old undo new. Adds (RepresentsClass finder.classes.now.family) after undo old new };
+    ghost takes = { λ after finder old undo new.
+        AddsClasses finder.is_own_image (RepresentsClass finder.classes.now.family) (earlier after undo) old new };
 
     fn take(&self, after: &Setup, undo: RetroMove, found: &mut Vec<u64>) -> Result<(), Memory> {
-        if let Some(class) = class_before(self.classes, after, &self.threat, undo) {
-            found.push(class)?;
+        match position_before(self.classes.family, after, &self.threat, undo) {
+            None => Ok(()),
+            Some(position) => self.push_classes(&position, found),
         }
-        Ok(())
     }
 }
 
-// The class whose representative stood there before the move, if a representative did and was open.
-fn class_before(classes: &Classes, after: &Setup, threat: &Threat, undo: RetroMove) -> Option<u64>
-    requires can { CanUndo after.now undo }
-    requires of_set { IsSeenTurned (IsPositionOf classes.now.family) after.now }
-    requires threat { IsThreat after.now threat.now }
-    ensures { Finds (RepresentsClass classes.now.family) (earlier after.now undo) result }
-{
-    if threat.stood_before(&undo) {
-        return None;
-    }
-    if may_give_back(classes.family.profile, &undo) {
-        match open_before(after, undo) {
-            None => None,
-            Some(position) => class_if_representative(classes, &position),
+impl Finder<'_> {
+    // Appends the class of the open position, if it is the representative, and that of which its mirror image is, if images count.
+    fn push_classes(&self, position: &Position, found: &mut Vec<u64>) -> Result<(), Memory>
+        requires { IsPositionOf self.now.classes.now.family position.now.setup }
+        ensures { OnOk result (HasStatus A position.now.setup Open
+            → AddsClasses self.now.is_own_image (RepresentsClass self.now.classes.now.family) position.now.setup found.old.items found.new.items) }
+    {
+        push_representative(self.classes, position, found)?;
+        if self.is_own_image {
+            return Ok(());
         }
-    } else {
-        None
+        push_representative(self.classes, &position.mirrored(), found)
     }
+}
+
+// Appends the class whose representative the position of the family is, if it is one.
+fn push_representative(
+    classes: &Classes,
+    position: &Position,
+    found: &mut Vec<u64>,
+) -> Result<(), Memory>
+    requires { IsPositionOf classes.now.family position.now.setup }
+    ensures { OnOk result (Appends (RepresentsClass classes.now.family) position.now.setup found.old.items found.new.items) }
+{
+    if let Some(class) = class_if_representative(classes, position) {
+        found.push(class)?;
+    }
+    Ok(())
 }
 
 // The class whose representative the position of the family is; `None` if it is none.
@@ -76,22 +91,13 @@ fn gather(room: Vec<u64>, classes: &Classes, representative: &Position) -> Resul
     found.clear();
     let after = representative.turned();
     let board = Board::of(&after);
+    let image = representative.mirrored();
     let finder = Finder {
         classes,
         threat: Threat::of(&board),
+        is_own_image: class_if_representative(classes, &image).is_some(),
     };
     take_all(&finder, &after, &mut found)?;
-    let image = representative.mirrored();
-    if class_if_representative(classes, &image).is_some() {
-        return Ok(found);
-    }
-    let image_after = image.turned();
-    let image_board = Board::of(&image_after);
-    let image_finder = Finder {
-        classes,
-        threat: Threat::of(&image_board),
-    };
-    take_all(&image_finder, &image_after, &mut found)?;
     Ok(found)
 }
 

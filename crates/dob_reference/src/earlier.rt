@@ -1,25 +1,38 @@
 // The position before a move.
 ghost use Rattle.std.specs.Prelude.{◌≡◌, MatchOption};
 ghost use Rattle.dob_pieces.specs.declared.profile.Profile.TheVariants.{A};
-ghost use Rattle.dob_pieces.specs.Setups.{HasFewPieces, IsLegal};
+ghost use Rattle.dob_pieces.specs.Setups.{HasFewPieces};
 ghost use Rattle.dob_moves.specs.Statuses.{HasStatus};
+ghost use Rattle.dob_rank.specs.Families.{IsPositionOf};
 ghost use Rattle.dob_moves.specs.declared.position_status.Status.TheVariants.{Open};
 ghost use Rattle.dob_unmove.specs.Undoes.{CanGiveBack, CanUndo, earlier};
 ghost use Rattle.dob_unmove.specs.Unmoves.{IsOpenPosition};
 ghost use Rattle.dob_unmove.specs.Classes.{IsSeenTurned};
+ghost use Rattle.dob_unmove.specs.Threats.{IsThreat};
 
-use dob_pieces::{HandKind, Hands, Kind, Piece, Position, Setup, Side, Square};
-use dob_unmove::{RetroMove, enemy_cell, without_caught};
+use dob_pieces::{Family, HandKind, Hands, Kind, Piece, Position, Setup, Side, Square};
+use dob_unmove::{RetroMove, Threat, enemy_cell, may_give_back, without_caught};
 
-/// The position before the move, where there was one, if by its status it would be open. In `after` the side that made
-/// the move is still the mover; seen from the other side it is a position. Taking a move back keeps the lions and the
-/// other pieces, so only the mover's lion on row 4 is left to be tested.
-pub(crate) fn open_before(after: &Setup, undo: RetroMove) -> Option<Position>
+/// The position of the family before the move, where one stood that was open. In `after` the side that made the move is still the mover; seen from
+/// the other side it is a position. Taking a move back keeps the lions and the other pieces, so only the mover's lion on row 4 is left to be tested.
+pub(crate) fn position_before(
+    family: Family,
+    after: &Setup,
+    threat: &Threat,
+    undo: RetroMove,
+) -> Option<Position>
     requires can { CanUndo after.now undo }
-    requires legal { IsSeenTurned IsLegal after.now }
-    requires was_open { HasStatus A (earlier after.now undo) Open }
-    ensures { MatchOption result (¬ IsOpenPosition (earlier after.now undo)) (λ p. (p.setup ≡ earlier after.now undo) × HasStatus A p.setup Open) }
+    requires of_set { IsSeenTurned (IsPositionOf family) after.now }
+    requires threat { IsThreat after.now threat.now }
+    ensures { MatchOption result (IsPositionOf family (earlier after.now undo) → ¬ IsOpenPosition (earlier after.now undo))
+        (λ p. (p.setup ≡ earlier after.now undo) × HasStatus A p.setup Open × IsPositionOf family p.setup) }
 {
+    if threat.stood_before(&undo) {
+        return None;
+    }
+    if !may_give_back(family.profile, &undo) {
+        return None;
+    }
     let setup = earlier(after, undo);
     if setup.has_lion_off_far_row() {
         Some(Position::new(setup))

@@ -65,11 +65,11 @@ pub use Rattle.dob_pieces.specs.declared.board.Board.{Board}
 pub use Rattle.dob_unmove.specs.Classes.{IsSeenTurned, RepresentsClass}
 pub use Rattle.dob_unmove.specs.Ends.{CanWalk, setup_after}
 unfoldable pub use Rattle.dob_unmove.specs.Ends.{seen_after}
-pub use Rattle.dob_unmove.specs.Gathers.{Adds, Finds, Gathers, IsOpenRepresentative}
+pub use Rattle.dob_unmove.specs.Gathers.{Finds, Gathers, IsOpenRepresentative}
 pub use Rattle.dob_unmove.specs.Threats.{AreAttackers, IsThreat, elsewhere, stood_before}
 pub use Rattle.dob_unmove.specs.Undoes.{CanGiveBack, CanUndo, CanUnstep, arrives_at, choice, enemy_cell, may_give_back, without_caught}
 unfoldable pub use Rattle.dob_unmove.specs.Undoes.{earlier}
-pub use Rattle.dob_unmove.specs.Unmoves.{ArePredecessors, CountEdges, HasEdges, IsNumbering, IsOpenPosition, LeadsInto}
+pub use Rattle.dob_unmove.specs.Unmoves.{ArePredecessors, CountEdges, HasEdges, IsNumbering, LeadsInto}
 pub use Rattle.dob_unmove.specs.Walks.{TakesAll, holds_any, holds_caught, if_so, is_movers, stands, uncatch, unsteps_between}
 unfoldable pub use Rattle.dob_unmove.specs.Walks.{undoes, undoes_at, unputs, unsteps, unsteps_from}
 pub use Rattle.dob_unmove.specs.Ways.{AreWays, HasLionHome, TellsHome, comes_home, is_home, may_come, may_have_ended}

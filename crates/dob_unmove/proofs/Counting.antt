@@ -1,8 +1,8 @@
 -- The numbers gathered from all ways count the moves that lead into a class.
 use Rattle.dob_unmove.proofs.Common.{◌++◌, ◌+◌, ◌==◌, ◌∙◌, ◌∷◌, ◌≡◌, ◌≢◌, All, AllPairs, Contains, List, None, Option, Some, [], ap, arith, one_if}
-use Rattle.dob_unmove.proofs.Common.{get_or, inl, inr, length, length-append, option_to_list, refl, subst, sym, ℕ, cases_eq, eq-eqb, ne_eqb, All-contains}
-use Rattle.dob_unmove.proofs.Common.{All-head, All-nil, All-push, All-tail, Contains-append_cases, Contains-append_left, Contains-append_right, AllPairs-cons}
-use Rattle.dob_unmove.proofs.Common.{sum_by_push, count_by, length-mirrored, length-turned, cons_cases, mirrored, turned, A, Setup, HasOutcome-is, HasOutcome}
+use Rattle.dob_unmove.proofs.Common.{get_or, inl, inr, length, option_to_list, refl, subst, sym, ℕ, cases_eq, eq-eqb, ne_eqb, All-contains}
+use Rattle.dob_unmove.proofs.Common.{All-head, All-nil, All-push, All-tail, Contains-append_right, AllPairs-cons}
+use Rattle.dob_unmove.proofs.Common.{sum_by_push, count_by, length-turned, cons_cases, mirrored, turned, A, Setup, HasOutcome-is, HasOutcome}
 use Rattle.dob_unmove.proofs.Common.{HasStatus, Move, Open, Finds, Gathers, IsOpenRepresentative, CanUndo, choice, earlier, CountEdges, HasEdges, IsNumbering}
 use Rattle.dob_unmove.proofs.Common.{undoes, RetroMove, All-append, head_in, append-nil}
 use Rattle.std.proofs.lemmas.List.Elements.{Contains-get_or}
@@ -25,16 +25,16 @@ pairs-append {X} R (x ∷ xs) ys p q across =
 
 -- ---- what the walk gathered
 
-module _ (Represents : Setup → ℕ → Type 0) (n : IsNumbering Represents) where
-  known_more : (p : Setup) (found : Option ℕ) (old : List ℕ) → Finds Represents p found → All (λ class. (p : Setup) × Represents p class) old
-      → All (λ class. (p : Setup) × Represents p class) (old ++ option_to_list found)
-  known_more p None old f h = subst (All (λ class. (p : Setup) × Represents p class)) (sym (append-nil old)) h
-  known_more p (Some class) old f h = All-push (λ class. (p : Setup) × Represents p class) old class h (p, f.0)
+pub known_more : (Represents : Setup → ℕ → Type 0) (p : Setup) (found : Option ℕ) (old : List ℕ) → Finds Represents p found
+    → All (λ class. (p : Setup) × Represents p class) old → All (λ class. (p : Setup) × Represents p class) (old ++ option_to_list found)
+known_more Represents p None old f h = subst (All (λ class. (p : Setup) × Represents p class)) (sym (append-nil old)) h
+known_more Represents p (Some class) old f h = All-push (λ class. (p : Setup) × Represents p class) old class h (p, f.0)
 
-  pub gathered_known : (t : Setup) (us : List RetroMove) (old new : List ℕ) → Gathers Represents t us old new → All (λ class. (p : Setup) × Represents p class) old
+module _ (Represents : Setup → ℕ → Type 0) (n : IsNumbering Represents) where
+  gathered_known : (t : Setup) (us : List RetroMove) (old new : List ℕ) → Gathers Represents t us old new → All (λ class. (p : Setup) × Represents p class) old
       → All (λ class. (p : Setup) × Represents p class) new
   gathered_known t [] old new e h = subst (All (λ class. (p : Setup) × Represents p class)) e h
-  gathered_known t (u ∷ us) old new g h = gathered_known t us _ new g.2 (known_more (earlier t u) g.0 old g.1 h)
+  gathered_known t (u ∷ us) old new g h = gathered_known t us _ new g.2 (known_more Represents (earlier t u) g.0 old g.1 h)
 
   module _ (p : Setup) (class : ℕ) (stands : Represents p class) where
     abbrev pub number_of : List ℕ → ℕ
@@ -171,32 +171,6 @@ module _ (Represents : Setup → ℕ → Type 0) (n : IsNumbering Represents) wh
           counted = omega (arith, c.2);
         }
 
-    -- and else the walks over both
-    edges_both : (q : Setup) (mid new : List ℕ) → length q.board ≡ 12 → mirrored q ≢ q → Gathers Represents (turned q) (undoes (turned q)) [] mid
-        → Gathers Represents (turned (mirrored q)) (undoes (turned (mirrored q))) mid new → HasEdges A p q (number_of new)
-    edges_both q mid new twelve other g h =
-        let c = counted_leading q twelve [] mid g in
-        let d = counted_leading (mirrored q) (length-mirrored q) mid new h in
-        record {
-          moves = c.0 ++ d.0;
-          sound = λ m found.
-              elim (Contains-append_cases c.0 d.0 m found) [
-                | inl first ↦ let s = c.1.sound m first in (s.0, (q, s.1, inl refl))
-                | inr second ↦ let s = d.1.sound m second in (s.0, (mirrored q, s.1, inr refl))
-              ];
-          whole = λ m leads.
-              elim leads.1.2 [
-                | inl e ↦ Contains-append_left c.0 d.0 m (c.1.whole m leads.0 (subst (λ (x : Setup). HasOutcome p m x) e leads.1.1))
-                | inr e ↦ Contains-append_right c.0 d.0 m (d.1.whole m leads.0 (subst (λ (x : Setup). HasOutcome p m x) e leads.1.1))
-              ];
-          once = pairs-append (λ (a b : Move). a ≢ b) c.0 d.0 c.1.once d.1.once
-              (λ a b first second e.
-              let s = c.1.sound a first in
-              let t = d.1.sound b second in
-              other (one_outcome p b (mirrored q) q t.1 (subst (λ (x : Move). HasOutcome p x q) e s.1)));
-          counted = omega (arith, c.2, d.2, length-append c.0 d.0);
-        }
-
   nothing_known : All (λ class. (p : Setup) × Represents p class) []
   nothing_known = All-nil (λ class. (p : Setup) × Represents p class)
 
@@ -205,12 +179,4 @@ module _ (Represents : Setup → ℕ → Type 0) (n : IsNumbering Represents) wh
   counts_alone q new twelve own g = record {
     known = gathered_known (turned q) (undoes (turned q)) [] new g nothing_known;
     edges = λ p class stands. edges_alone p class stands q new twelve own g;
-  }
-
-  pub counts_both : (q : Setup) (mid new : List ℕ) → length q.board ≡ 12 → mirrored q ≢ q → Gathers Represents (turned q) (undoes (turned q)) [] mid
-      → Gathers Represents (turned (mirrored q)) (undoes (turned (mirrored q))) mid new → CountEdges A Represents q new
-  counts_both q mid new twelve other g h = record {
-    known =
-        gathered_known (turned (mirrored q)) (undoes (turned (mirrored q))) mid new h (gathered_known (turned q) (undoes (turned q)) [] mid g nothing_known);
-    edges = λ p class stands. edges_both p class stands q mid new twelve other g h;
   }

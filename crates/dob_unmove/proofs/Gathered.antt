@@ -1,17 +1,10 @@
 -- What the ways add, one list after the other: nothing where none can lead to an open position.
 use Rattle.dob_unmove.proofs.Common.{◌++◌, ◌+◌, ◌<◌, ◌∷◌, ◌≡◌, ◌≤◌, Bool, Contains, List, [], arith, cases_Bool, false, filter, inl, inr}
 use Rattle.dob_unmove.proofs.Common.{refl, subst, suc, true, zero, ℕ, Contains-append_right, head_in, IsWalked, each_range, passing}
-use Rattle.dob_unmove.proofs.Common.{squares_in, walk_next, walk_passes, walk_start, walk_whole, each_below, IsMask, Setup, Gathers}
-use Rattle.dob_unmove.proofs.Common.{RetroMove, TakesAll, Adds}
+use Rattle.dob_unmove.proofs.Common.{squares_in, walk_next, walk_passes, walk_start, walk_whole, each_below, IsMask}
+use Rattle.dob_unmove.proofs.Common.{RetroMove, TakesAll}
 use Rattle.dob_unmove.proofs.Runs.{takes_append}
 use Rattle.std.specs.List.{flat_map, range_with_len}
-
--- what the reference walk adds, way by way
-pub gathers_taken : (Represents : Setup → ℕ → Type 0) (after : Setup) (us : List RetroMove) (xs ys : List ℕ)
-    → TakesAll (λ old undo new. Adds Represents after undo old new) xs us ys
-    → Gathers Represents after us xs ys
-gathers_taken Represents after [] xs ys h = h
-gathers_taken Represents after (u ∷ us) xs ys h = grind (arith, (gathers_taken Represents after us h.0 ys h.2))
 
 module _ (R : List ℕ → RetroMove → List ℕ → Type 0) where
   -- the way adds nothing

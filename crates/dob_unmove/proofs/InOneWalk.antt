@@ -14,7 +14,7 @@ use Rattle.dob_pieces.specs.Squares.{mirrored_square}
 use Rattle.dob_moves.specs.Mirrors.{mirrored_move}
 use Rattle.dob_moves.proofs.Mirrors.{HasOutcome-mirrored, HasStatus-mirrored_in_A}
 use Rattle.dob_unmove.specs.Gathers.{AddsClasses, OfImage}
-use Rattle.dob_unmove.proofs.Counting.{counted_leading, counts_alone, one_outcome, pairs-append}
+use Rattle.dob_unmove.proofs.Counting.{counted_leading, counts_alone, known_more, one_outcome, pairs-append}
 use Rattle.dob_unmove.proofs.Images.{IsNumbering-images}
 
 -- ---- mirror images of moves
@@ -99,10 +99,6 @@ module _ (Represents : Setup → ℕ → Type 0) (t : Setup) where
   abbrev Known : List ℕ → Type 0
   Known xs = All (λ class. (p : Setup) × Represents p class) xs
 
-  known_first : (p : Setup) (o : Option ℕ) (old : List ℕ) → Finds Represents p o → Known old → Known (old ++ option_to_list o)
-  known_first p None old f h = subst Known (sym (append-nil old)) h
-  known_first p (Some class) old f h = All-push (λ class. (p : Setup) × Represents p class) old class h (p, f.0)
-
   known_second : (p : Setup) (o : Option ℕ) (old : List ℕ) → Finds (OfImage Represents) p o → Known old → Known (old ++ option_to_list o)
   known_second p None old f h = subst Known (sym (append-nil old)) h
   known_second p (Some class) old f h = All-push (λ class. (p : Setup) × Represents p class) old class h (mirrored p, f.0.1)
@@ -113,7 +109,7 @@ module _ (Represents : Setup → ℕ → Type 0) (t : Setup) where
       let step = g.1 in
       known us g.0 new g.2
       (subst Known (sym step.added)
-      (known_second (earlier t u) step.image _ step.second (known_first (earlier t u) step.found old step.first h)))
+      (known_second (earlier t u) step.image _ step.second (known_more Represents (earlier t u) step.found old step.first h)))
 
 module _ (Represents : Setup → ℕ → Type 0) (n : IsNumbering Represents) (q : Setup) (twelve : length q.board ≡ 12) (other : mirrored q ≢ q)
     (firsts seconds : List ℕ) (g : Gathers Represents (turned q) (undoes (turned q)) [] firsts)

@@ -17,10 +17,6 @@ IsOpenRepresentative Represents p class = Represents p class × HasStatus A p Op
 abbrev pub Finds : (Setup → ℕ → Type 0) → Setup → Option ℕ → Type 0
 Finds Represents p found = MatchOption found (¬ ((class : ℕ) × IsOpenRepresentative Represents p class)) (IsOpenRepresentative Represents p)
 
--- what taking one way back adds to the list of numbers
-abbrev pub Adds : (Setup → ℕ → Type 0) → Setup → RetroMove → List ℕ → List ℕ → Type 0
-Adds Represents after undo old new = (found : Option ℕ) × Finds Represents (earlier after undo) found × (new ≡ old ++ option_to_list found)
-
 -- the numbers added by the ways, one after the other
 abbrev pub Gathers : (Setup → ℕ → Type 0) → Setup → List RetroMove → List ℕ → List ℕ → Type 0
 Gathers Represents after [] old new = old ≡ new

@@ -5,7 +5,7 @@
 // - What stood before the mirror image of a class's representative is the mirror image of what stood before that, so one walk finds the classes of both. A
 //   position before that is its own mirror image counts twice; where the representative is its own, only representatives count.
 // - The walk by masks skips a way if no open position can have stood before it: a piece attacked the enemy lion, or the mover's lion stood on row 4. The
-//   plain walk, which looks at every way back, once for each of the two images (`dob_reference`), has the same promise; what the two share of a way is public
+//   plain walk, which looks at every way back over cells (`dob_reference`), has the same promise; what the two share of a way is public
 //   (`RetroMove`, `Threat`, `may_give_back` and the like).
 // - Contracts speak of setups by the numbers of their classes; the code reads boards, and makes no cells.
 #![tactic(auto)]

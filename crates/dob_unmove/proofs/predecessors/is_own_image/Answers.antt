@@ -1,10 +1,10 @@
 -- A position that is its own mirror image has its lions on column b.
-use Rattle.dob_unmove.proofs.Common.{◌∙◌, ap, inl, inr, refl, sym, true≢false, cases_Bool, is_some, turned-mirrored, mirrored, turned}
+use Rattle.dob_unmove.proofs.Common.{◌∙◌, ap, refl, sym, true≢false, turned-mirrored, mirrored, turned}
 use Rattle.dob_unmove.proofs.Common.{IsPositionOf-mirrored, IsShown, RepresentsClass}
 use Rattle.dob_rank.specs.Families.{class_setup}
 use Rattle.dob_unmove.proofs.Classes.{IsNumbering-classes, first_of_two}
 use Rattle.dob_unmove.proofs.Edges.{RepresentsClass-class_setup, class_seen}
-use Rattle.dob_unmove.proofs.Gathering.{own_image, other_image}
+use Rattle.dob_unmove.proofs.Gathering.{own_image}
 use Rattle.dob_unmove.proofs.Kept.{legal_turned}
 use Rattle.dob_unmove.proofs.Undone.{turned_lions}
 use Rattle.dob_unmove.proofs.predecessors.is_own_image.Goals as goal
@@ -30,15 +30,9 @@ returns-then-has_lions_on_b c =
     let q = class_setup family c.args.class in
     let is = RepresentsClass-class_setup family c.args.class c.requires.class in
     let image = image_shown (goal.at.returns-then-has_lions_on_b c).After-mirrored-image in
-    let found = first_of_two family (mirrored q) _ image.position (c.class_if_representative.ensures.class (mirrored q) image) in (
-      λ some. own_image (RepresentsClass family) q (mirrored q) c.class_if_representative.result
-          (IsNumbering-classes family) (c.args.class, is) refl found (sym c.is_some.ensures ∙ some),
-      λ own. elim (cases_Bool (is_some c.class_if_representative.result)) [
-        | inl some ↦ c.is_some.ensures ∙ some
-        | inr none ↦
-            absurd (other_image (RepresentsClass family) q (mirrored q) c.class_if_representative.result (c.args.class, is) refl found none own)
-      ],
-    )
+    let told = own_image (RepresentsClass family) q (mirrored q) c.class_if_representative.result (IsNumbering-classes family) (c.args.class, is) refl
+    (first_of_two family (mirrored q) _ image.position (c.class_if_representative.ensures.class (mirrored q) image)) in
+    (λ some. told.0 (sym c.is_some.ensures ∙ some), λ own. c.is_some.ensures ∙ told.1 own)
 
 pub returns : goal.returns
 returns c = (
