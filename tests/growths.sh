@@ -46,5 +46,8 @@ done
 tests=crates/dob_tests_nodes/out/dob_tests_nodes_tests
 [ -x "$tests" ] || (cd crates/dob_tests_nodes && rt test) </dev/null >/dev/null 2>&1
 refuse --program "$tests" world::stops::a_stopped_world_is_as_before
-# a world that is driven: out of memory and nothing else, and in the end the table from outside
+# a world that is driven and a build by threads: out of memory and nothing else, and in the end the table from outside
 refuse --program "$tests" world::stops::driven_while_growths_are_refused
+tests=crates/dob_tests_threads/out/dob_tests_threads_tests
+[ -x "$tests" ] || (cd crates/dob_tests_threads && rt test) </dev/null >/dev/null 2>&1
+refuse --program "$tests" run::builds::built_while_growths_are_refused
