@@ -4,7 +4,6 @@ use Rattle.dob_history.proofs.Common.{Stored, Value, [], ap, arith, class_of_pla
 use Rattle.dob_history.proofs.Common.{opening_value, refl, set, settled_among, settlement_stored, settlements_from, settlements_of, slice_get, slice_get-get_or}
 use Rattle.dob_history.proofs.Common.{slice_get_within, start_status, starts_count, starts_of, subst, suc, sym, take, value_of_code, zero, ℕ}
 use Rattle.std.proofs.lemmas.List.{append_assoc, get_or-append-add, length-take-le, get_or-take, take_more_set}
-use Rattle.dob_history.proofs.Starts.{start_entry}
 use Rattle.dob_history.proofs.Starts.{starts_length, start_found}
 
 pub length-settlements_from : (n id number : ℕ) (stored : List Stored) → length (settlements_from n id number stored) ≡ length stored
@@ -78,12 +77,6 @@ NextIs n count more new given = (owner first : ℕ) → given.class % n ≡ owne
 
 -- ---- what is read of a history
 
--- A settlement of that number is read, and has such values as a table can have.
-pub record IsGot (settlements : List Settlement) (number : ℕ) (given : Settlement) : Type 0 where
-  pub get : slice_get settlements number ≡ Some given
-  pub was : IsEntry given.was
-  pub now : IsEntry given.now
-
 module _ (n id room count : ℕ) (starts : StatusesView) (stored : List Stored) {view : HistoryView} (all : count + room ≤ length stored)
     (is : seen n id room starts (take count stored) ≡ view) where
   abbrev first_ones : List Settlement
@@ -109,13 +102,10 @@ module _ (n id room count : ℕ) (starts : StatusesView) (stored : List Stored) 
   -- one of the start
   pub got_start : (number place : ℕ) (now : Value) (given : Settlement) → place < starts.places → settled_among (start_status starts) place ≡ number →
       opening_value (start_status starts place) ≡ Some now →
-      given ≡ record { number = number; class = class_of_place n id place; was = Draw; now = now } → IsGot view.settlements number given
-  got_start number place now given low many value given_is = subst (λ (s : Settlement). IsGot view.settlements number s) (sym given_is) (record {
-    get = ap (λ (v : HistoryView). slice_get v.settlements number) (sym is)
-        ∙ start_found n id number place starts now (settlements_from n id (length first_ones) list) low many value;
-    was = tt;
-    now = start_entry (start_status starts place) now value;
-  })
+      given ≡ record { number = number; class = class_of_place n id place; was = Draw; now = now } → slice_get view.settlements number ≡ Some given
+  got_start number place now given low many value given_is =
+      ap (λ (v : HistoryView). slice_get v.settlements number) (sym is)
+      ∙ start_found n id number place starts now (settlements_from n id (length first_ones) list) low many value ∙ ap Some (sym given_is)
 
   -- one behind those of the start, of which there are `first`
   module _ (number first : ℕ) (low : number < length view.settlements) (first_is : first ≡ starts_count starts) (behind : first ≤ number) where

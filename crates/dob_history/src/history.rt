@@ -18,7 +18,7 @@ use dob_distance::{Value, code_of_value, value_of_code};
 use dob_lists::{SegmentLength, Segments};
 use dob_pieces::Memory;
 use dob_safra::NodeCount;
-use dob_share::{Cause, Item, Seen, Settlement, Share, quotient};
+use dob_share::{Cause, Item, News, Seen, Settlement, Share, quotient};
 use std::alloc::Global;
 use std::marker::Model;
 
@@ -88,34 +88,30 @@ impl History {
     /// The settlement of that number. For one of the start it walks from where `reach` went last, or else from the first class.
     pub fn get(&self, number: u64) -> Settlement
         requires { number < length self.now.settlements }
-        ensures get { slice_get self.now.settlements number ≡ Some result }
-        ensures was { IsEntry result.was }
-        ensures now { IsEntry result.now }
+        ensures { slice_get self.now.settlements number ≡ Some result }
     {
         let first = self.starts.settled();
         if number < first {
             let start = self.starts.find(number);
-            return start_settlement(number, start, self.nodes, self.id);
+            return start_news(number, start, self.nodes, self.id).settlement();
         }
         let stored = self.stored.get(number - first);
-        stored_settlement(number, stored, self.nodes, self.id)
+        stored_news(number, stored, self.nodes, self.id).settlement()
     }
 
-    /// The settlement of that number, as `get` finds it, and so that those behind it are found quickly from then on.
-    pub fn reach(&mut self, number: u64) -> Settlement
+    /// The news of the settlement of that number, which is found so that those behind it are found quickly from then on.
+    pub fn reach(&mut self, number: u64) -> News
         requires { number < length self.old.settlements }
         ensures same { self.new ≡ self.old }
         ensures get { slice_get self.old.settlements number ≡ Some result }
-        ensures was { IsEntry result.was }
-        ensures now { IsEntry result.now }
     {
         let first = self.starts.settled();
         if number < first {
             let start = self.starts.reach(number);
-            return start_settlement(number, start, self.nodes, self.id);
+            return start_news(number, start, self.nodes, self.id);
         }
         let stored = self.stored.get(number - first);
-        stored_settlement(number, stored, self.nodes, self.id)
+        stored_news(number, stored, self.nodes, self.id)
     }
 
     /// The level of the settlement of that number: the distance of its value now, and 1 of each one of the start.
@@ -184,33 +180,29 @@ impl History {
     }
 }
 
-// The settlement of that number and of a class that is settled at the start, of owner `id` among `nodes`.
-fn start_settlement(number: u64, start: StartValue, nodes: NodeCount, id: usize) -> Settlement
+// The news of the settlement of that number and of a class that is settled at the start, of owner `id` among `nodes`.
+fn start_news(number: u64, start: StartValue, nodes: NodeCount, id: usize) -> News
     requires place { start.place < 2 ^ 32 }
+    requires now { IsEntry start.now }
     requires id { id < nodes }
     ensures { result ≡ record { number = number; class = class_of_place nodes id start.place; was = Draw; now = start.now } }
 {
-    Settlement {
+    let class = start.place * nodes.get() as u64 + id as u64;
+    News::of_codes(
         number,
-        class: start.place * nodes.get() as u64 + id as u64,
-        was: Value::Draw,
-        now: start.now,
-    }
+        class,
+        code_of_value(Value::Draw),
+        code_of_value(start.now),
+    )
 }
 
-// The settlement of that number that is stored so, of owner `id` among `nodes`.
-fn stored_settlement(number: u64, stored: Stored, nodes: NodeCount, id: usize) -> Settlement
-    requires id { id < nodes }
-    ensures settlement { result ≡ settlement_stored nodes id number stored }
-    ensures was { IsEntry result.was }
-    ensures now { IsEntry result.now }
+// The news of the settlement of that number that is stored so, of owner `id` among `nodes`.
+fn stored_news(number: u64, stored: Stored, nodes: NodeCount, id: usize) -> News
+    requires { id < nodes }
+    ensures { result ≡ settlement_stored nodes id number stored }
 {
-    Settlement {
-        number,
-        class: u64::from(stored.place) * nodes.get() as u64 + id as u64,
-        was: value_of_code(stored.was),
-        now: value_of_code(stored.now),
-    }
+    let class = u64::from(stored.place) * nodes.get() as u64 + id as u64;
+    News::of_codes(number, class, stored.was, stored.now)
 }
 
 // Makes room for `wanted` behind the first `count` of those stored. `Memory` leaves these as they were.

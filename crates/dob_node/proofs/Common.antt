@@ -1,6 +1,6 @@
 -- The names that the proofs here use most, from other crates and the definitions of this one.
 pub use Rattle.std.proofs.Common.{◌*◌, ◌++◌, ◌+◌, ◌/◌, ◌<◌, ◌^◌, ◌↔◌, ◌∙◌, ◌∷◌, ◌≡◌, ◌≢◌, ◌≤◌, Bool, Err, List, None, Ok, Option, Result, Some, []}
-pub use Rattle.std.proofs.Common.{ap, arith, cond, eqb, get_or, inl, inr, length, refl, rules, set, slice_get, subst, sym, true, ℕ}
+pub use Rattle.std.proofs.Common.{ap, arith, cond, eqb, get_or, inl, inr, length, refl, rules, set, slice_get, subst, sym, true, ℕ, ap₂, drop, vec_len}
 pub use Rattle.std.proofs.Math.ListN.{get_or-eq_default}
 pub use Rattle.std.proofs.Math.Seq.{drop-nil}
 pub use Rattle.std.proofs.lemmas.Bool.{cases_eq, cases_lt, eq-eqb}
@@ -35,7 +35,7 @@ pub use Rattle.dob_share.specs.declared.opening.Opening.{Opening}
 pub use Rattle.dob_share.specs.declared.share.Share.{Share}
 pub use Rattle.dob_update.specs.Batches.{BatchView, IsCut, OutboxState, OutboxView, added, empty_outbox}
 pub use Rattle.dob_update.specs.Queues.{queued}
-pub use Rattle.dob_share.specs.Items.{items_of}
+pub use Rattle.dob_share.specs.Items.{items_of, items_of_parts}
 pub use Rattle.dob_share.specs.declared.cause.Cause.{Cause}
 pub use Rattle.dob_history.specs.Histories.{AreValuesBelow, value_of}
 pub use Rattle.dob_history.specs.Lawful.{AreLawfulNodes}
@@ -47,3 +47,6 @@ pub use Rattle.dob_history.specs.Openings.{AreOpenings}
 pub use Rattle.dob_node.specs.Outboxes.{AreAdded, HaveRoom, IsCutFrom, IsOutboxTo, outbox_in, sends_of}
 pub use Rattle.dob_history.specs.Stores.{HistoryView, start_status, starts_of}
 pub use Rattle.dob_history.specs.TakenItems.{AreKept, AreTaken, AreTakenBefore, HasParities, IsHistory, IsTaken, StayKept, StopsAt, StopsFirst, listed}
+pub use Rattle.dob_history.proofs.Kepts.{kept_own}
+pub use Rattle.std.proofs.lemmas.Grind.{common_steps}
+pub use Rattle.std.proofs.lemmas.List.{get_or-map, length-map, map-set}

@@ -1,10 +1,8 @@
 -- The outboxes of a node: empty ones, what one settlement more adds to them, and what a batch cut leaves.
-use Rattle.dob_node.proofs.Common.{◌++◌, ◌+◌, ◌<◌, ◌∙◌, ◌∷◌, ◌≡◌, ◌≢◌, ◌≤◌, All, AreAdded, BatchView, Family}
-use Rattle.dob_node.proofs.Common.{IfSome, IsCut, IsCutFrom, IsNone, IsOutboxTo, IsSound, Item, List}
-use Rattle.dob_node.proofs.Common.{NodeView, None, Option, OutboxView, Settlement, Some, [], added, ap, arith, cases_eq, cases_lt, drop-nil, empty_outbox}
-use Rattle.dob_node.proofs.Common.{get_or, get_or-eq_default, get_or-set_other, get_or-set_same, get_or_append_left, get_or_default, inl, inr}
-use Rattle.dob_node.proofs.Common.{items_of, length, length-append, length-set, outbox_in, predecessors, refl, set, subst, sym, ℕ}
-use Rattle.dob_node.proofs.Common.{OutboxState, sends_of}
+use Rattle.dob_node.proofs.Common.{◌++◌, ◌+◌, ◌<◌, ◌∙◌, ◌∷◌, ◌≡◌, ◌≢◌, ◌≤◌, [], All, AreAdded, BatchView, Family, IfSome, IsCut, IsCutFrom, IsNone, IsOutboxTo}
+use Rattle.dob_node.proofs.Common.{IsSound, Item, List, NodeView, None, Option, OutboxState, OutboxView, Settlement, Some, added, ap, arith, cases_eq, cases_lt}
+use Rattle.dob_node.proofs.Common.{drop-nil, empty_outbox, get_or, get_or-eq_default, get_or-set_other, get_or-set_same, get_or_append_left, get_or_default}
+use Rattle.dob_node.proofs.Common.{inl, inr, items_of, length, length-append, length-set, outbox_in, predecessors, refl, sends_of, set, subst, sym, ℕ}
 use Rattle.std.proofs.lemmas.List.{get_or-map, get_or_push, length-map, map-set}
 
 -- ---- empty ones

@@ -1,9 +1,7 @@
 -- Items that a node takes one after the other, from a batch and from its own: what the node has then, whose history may have had other room before.
-use Rattle.dob_node.proofs.Common.{◌∙◌, ◌≡◌, ◌≢◌, AppliesAll, AreTaken, AreTakenBefore, Cause, Err, HasItemFault, HasTaken}
-use Rattle.dob_node.proofs.Common.{HasTakenBefore, HistoryView, IfErr, IsHistory, IsSound, IsUnchanged, Item, List, NodeView, Ok, Result, Share, StayKept}
-use Rattle.dob_node.proofs.Common.{StopsAt, StopsFirst, length, refl, subst, ℕ}
-use Rattle.std.proofs.Common.{drop}
-use Rattle.dob_node.proofs.Common.{◌<◌, ◌∷◌, ◌≤◌, None, Some, [], ap, arith, length-append, slice_get}
+use Rattle.dob_node.proofs.Common.{◌<◌, ◌∙◌, ◌∷◌, ◌≡◌, ◌≢◌, ◌≤◌, [], AppliesAll, AreTaken, AreTakenBefore, Cause, Err, HasItemFault, HasTaken, HasTakenBefore}
+use Rattle.dob_node.proofs.Common.{HistoryView, IfErr, IsHistory, IsSound, IsUnchanged, Item, List, NodeView, None, Ok, Result, Share, Some, StayKept, StopsAt}
+use Rattle.dob_node.proofs.Common.{StopsFirst, ap, arith, drop, length, length-append, refl, slice_get, subst, ℕ}
 use Rattle.std.specs.Prelude.{OnOk}
 use Rattle.dob_history.proofs.Kepts.{kept_back}
 use Rattle.dob_share.specs.declared.cause.Cause.TheVariants as cause

@@ -50,14 +50,14 @@ impl Core {
         if self.expanded == self.history.len() {
             return Ok(false);
         }
-        let settlement = self.history.reach(self.expanded);
+        let news = self.history.reach(self.expanded);
         let room = mem::replace(&mut self.targets, Vec::new(self.alloc));
-        let targets = back_into(room, classes, settlement.class)?;
+        let targets = back_into(room, classes, news.class())?;
         self.own.reserve(targets.len())?;
         reserve_for_others(&mut self.outboxes, targets.len(), self.id)?;
-        add_for_others(&mut self.outboxes, settlement, &targets, self.id);
+        add_for_others(&mut self.outboxes, &news, &targets, self.id);
         self.own
-            .add_owned(settlement, &targets, self.nodes.get(), self.id);
+            .add_owned(&news, &targets, self.nodes.get(), self.id);
         self.targets = targets;
         self.expanded += 1;
         Ok(true)

@@ -3,7 +3,6 @@ ghost use Rattle.std.specs.Prelude.{◌≡◌, ◌≢◌, ℕ, ◌<◌, ◌≤�
 ghost use Rattle.std.specs.Prelude.{slice_set, IsTrue, IfOk, OnOk};
 ghost use Rattle.std.specs.List.{All};
 ghost use Rattle.dob_pieces.specs.declared.profile.Family.{Family as Set};
-ghost use Rattle.dob_distance.specs.Codes.{IsEntry};
 ghost use Rattle.dob_unmove.specs.Edges.{predecessors};
 ghost use Rattle.dob_share.specs.Items.{items_of};
 ghost use Rattle.dob_update.specs.Batches.{OutboxState, empty_outbox, added};
@@ -11,7 +10,7 @@ ghost use Rattle.dob_node.specs.Outboxes.{outbox_in, sends_of, IsOutboxTo, AreAd
 
 use dob_pieces::{Family, Memory};
 use dob_safra::NodeCount;
-use dob_share::Settlement;
+use dob_share::News;
 use dob_update::Outbox;
 use std::alloc::Global;
 
@@ -68,36 +67,27 @@ fn reserve_at(outboxes: &mut Vec<Outbox>, to: usize, items: usize) -> Result<(),
 
 /// Adds a settlement to the outbox for each node but `from`, with its items for that node; `targets` are the classes
 /// with a move into the settled one, and there is room for an item of each.
-pub(crate) fn add_for_others(
-    outboxes: &mut Vec<Outbox>,
-    settlement: Settlement,
-    targets: &[u64],
-    from: usize,
-)
-    requires was { IsEntry settlement.was }
-    requires now { IsEntry settlement.now }
-    requires addressed { let n = length (sends_of outboxes.old.items) in (family : Set) × (targets.now ≡ predecessors family settlement.class) × ((to : ℕ) → IsOutboxTo family n from to (outbox_in family n from (sends_of outboxes.old.items) to)) }
+pub(crate) fn add_for_others(outboxes: &mut Vec<Outbox>, news: &News, targets: &[u64], from: usize)
+    requires addressed { let n = length (sends_of outboxes.old.items) in (family : Set) × (targets.now ≡ predecessors family news.now.class) × ((to : ℕ) → IsOutboxTo family n from to (outbox_in family n from (sends_of outboxes.old.items) to)) }
     requires room { HaveRoom (length targets.now) from (length outboxes.old.items) outboxes.old.items }
-    ensures { let n = length (sends_of outboxes.old.items) in AreAdded targets.now settlement n from n (sends_of outboxes.old.items) (sends_of outboxes.new.items) }
+    ensures { let n = length (sends_of outboxes.old.items) in AreAdded targets.now news.now n from n (sends_of outboxes.old.items) (sends_of outboxes.new.items) }
 {
     let nodes = outboxes.len();
     for to in 0..nodes {
         if to != from {
-            add_to(outboxes, to, settlement, targets);
+            add_to(outboxes, to, news, targets);
         }
     }
 }
 
 // Adds a settlement with its items to the outbox for a node, which has room for them.
-fn add_to(outboxes: &mut Vec<Outbox>, to: usize, settlement: Settlement, targets: &[u64])
-    requires was { IsEntry settlement.was }
-    requires now { IsEntry settlement.now }
+fn add_to(outboxes: &mut Vec<Outbox>, to: usize, news: &News, targets: &[u64])
     requires there { to < vec_len outboxes.old }
-    requires of { (default : OutboxState) → let outbox = slice_index_or outboxes.old.items to default in (outbox.sends.n ≡ vec_len outboxes.old) × (outbox.sends.to ≡ to) × (targets.now ≡ predecessors outbox.sends.family settlement.class) × (length targets.now ≤ outbox.room) }
-    ensures { (outbox : OutboxState) × (outboxes.new.items ≡ slice_set outboxes.old.items to outbox) × ((default : OutboxState) → outbox.sends ≡ added (slice_index_or outboxes.old.items to default).sends settlement (items_of (λ _. targets.now) (vec_len outboxes.old) to settlement)) }
+    requires of { (default : OutboxState) → let outbox = slice_index_or outboxes.old.items to default in (outbox.sends.n ≡ vec_len outboxes.old) × (outbox.sends.to ≡ to) × (targets.now ≡ predecessors outbox.sends.family news.now.class) × (length targets.now ≤ outbox.room) }
+    ensures { (outbox : OutboxState) × (outboxes.new.items ≡ slice_set outboxes.old.items to outbox) × ((default : OutboxState) → outbox.sends ≡ added (slice_index_or outboxes.old.items to default).sends news.now (items_of (λ _. targets.now) (vec_len outboxes.old) to news.now)) }
 {
     let outbox = &mut outboxes[to];
-    outbox.add_targets(settlement, targets);
+    outbox.add_targets(news, targets);
 }
 
 /// Whether nothing is left to send.

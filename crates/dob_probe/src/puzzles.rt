@@ -23,6 +23,14 @@ pub struct Puzzle {
     pub played: Move,
 }
 
+// The puzzles that are listed so far, and the outline of the representative of each; whether no two are to have the same one.
+#[derive(Drop)]
+struct PuzzleSearch {
+    is_spread: bool,
+    list: Vec<Puzzle>,
+    outlines: Vec<Outline>,
+}
+
 /// The first classes of the walk, at most `count`, that the table says are won in `plies` plies and of whose representative just one
 /// move leads to a position lost in one ply less, each with that move, in the walk's order. If a seed makes the order, no two of them are of
 /// one block with the lions on the same squares: the first of such classes is listed. The classes are looked at up to the last one listed, and
@@ -44,21 +52,23 @@ pub fn first_puzzles(
     if plies > u16::MAX as u64 {
         return Ok(Vec::new(alloc));
     }
-    let is_spread = walk.seed.is_some();
     let begin = begin_at(walk.after, &order, classes);
     let end = places_in(&order, classes);
-    let mut list = Vec::new(alloc);
-    let mut outlines = Vec::new(alloc);
+    let mut search = PuzzleSearch {
+        is_spread: walk.seed.is_some(),
+        list: Vec::new(alloc),
+        outlines: Vec::new(alloc),
+    };
     for place in begin..end {
-        if list.len() as u64 >= count {
-            return Ok(list);
+        if search.list.len() as u64 >= count {
+            return Ok(search.list);
         }
         if let Some(puzzle) = puzzle_of(table, plies as u16, class_on(&order, classes, place)) {
             let Puzzle { class, played } = puzzle;
-            list_puzzle(table, &mut list, &mut outlines, is_spread, class, played)?;
+            list_puzzle(table, &mut search, class, played)?;
         }
     }
-    Ok(list)
+    Ok(search.list)
 }
 
 // Lists the puzzle of that class and that move, and the outline of its class's representative, but passes it where it is to be unlike those that are listed, and isn't.
@@ -66,23 +76,22 @@ pub fn first_puzzles(
 // Error: `Memory`.
 fn list_puzzle(
     table: &Table,
-    list: &mut Vec<Puzzle>,
-    outlines: &mut Vec<Outline>,
-    is_spread: bool,
+    search: &mut PuzzleSearch,
     class: u64,
     played: Move,
 ) -> Result<(), Memory>
     requires within { class < length table.now.values }
-    requires outlines { AreOutlines table.now list.old.items outlines.old.items }
-    ensures outlines { OnOk result (AreOutlines table.now list.new.items outlines.new.items) }
-    ensures listed { OnOk result (IsListedNext table.now is_spread (puzzle_of class played) list.old.items list.new.items) }
+    requires outlines { AreOutlines table.now search.old.list.items search.old.outlines.items }
+    ensures outlines { OnOk result (AreOutlines table.now search.new.list.items search.new.outlines.items) }
+    ensures listed { OnOk result (IsListedNext table.now search.old.is_spread (puzzle_of class played) search.old.list.items search.new.list.items) }
+    ensures spread { search.new.is_spread ≡ search.old.is_spread }
 {
     let outline = outline_at(table, class);
-    if is_passed(outlines, is_spread, outline) {
+    if is_passed(&search.outlines, search.is_spread, outline) {
         return Ok(());
     }
-    list.push(Puzzle { class, played })?;
-    outlines.push(outline)?;
+    search.list.push(Puzzle { class, played })?;
+    search.outlines.push(outline)?;
     Ok(())
 }
 

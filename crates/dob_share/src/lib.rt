@@ -33,7 +33,7 @@ pub use build_fault::BuildFault;
 pub use cause::{Cause, Stopped};
 pub use fault::Fault;
 pub use listed::opening_at;
-pub use news::{Item, Part, Settlement, item_for};
+pub use news::{Item, News, Part, Settlement, item_for};
 pub use opening::Opening;
 pub use owners::{owner, quotient};
 pub use share::{Seen, Share, places_among};

@@ -1,6 +1,5 @@
 // What fills the outbox of owner 0 of two for owner 1, in the set of lions alone, and what is cut of it.
 ghost use Rattle.std.specs.Prelude.{◌≡◌};
-ghost use Rattle.dob_distance.specs.Codes.{IsEntry};
 
 use crate::sets::classes_of;
 use dob_classes::Classes;
@@ -12,10 +11,7 @@ use std::alloc::Global;
 use std::process::Abort;
 
 /// The settlement of a class that turns from a draw to a win in 7 plies.
-pub(crate) fn won(number: u64, class: u64) -> Settlement
-    ensures was { IsEntry result.was }
-    ensures now { IsEntry result.now }
-{
+pub(crate) fn won(number: u64, class: u64) -> Settlement {
     Settlement {
         number,
         class,
@@ -32,8 +28,6 @@ pub(crate) fn add(
     outbox: &mut Outbox,
     settlement: Settlement,
 )
-    requires was { IsEntry settlement.was }
-    requires now { IsEntry settlement.now }
     requires family { outbox.old.sends.family ≡ classes.now.family }
     requires n { outbox.old.sends.n ≡ 2 }
     requires to { outbox.old.sends.to ≡ 1 }

@@ -5,7 +5,7 @@ ghost use Rattle.dob_chan.specs.Ends.{AreStill, SendsToSame, TakesFromSame};
 use crate::sets::classes_of;
 use dob_chan::{Rejoined, SendEnd, TakeEnd, inbox, pair, rejoin, rejoin_inbox};
 use dob_safra::NodeCount;
-use dob_share::Settlement;
+use dob_share::{News, Settlement};
 use dob_unmove::back;
 use dob_update::{Batch, BatchSize, Capacity, Outbox};
 use dob_value::Value;
@@ -29,7 +29,8 @@ fn filled(rt: &impl Abort, alloc: Global, from: usize) -> Outbox {
     let predecessors = back(alloc, &classes, settlement.class).expect(rt, "memory");
     let mut outbox = Outbox::new(alloc, classes.family, 2, from, 1);
     outbox.reserve(predecessors.len()).expect(rt, "memory");
-    outbox.add_targets(settlement, &predecessors);
+    let news = News::of(settlement).expect(rt, "values of a table");
+    outbox.add_targets(&news, &predecessors);
     outbox
 }
 

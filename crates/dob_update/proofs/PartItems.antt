@@ -1,13 +1,10 @@
 -- The items of parts, of which only the classes are listed that they are for.
-use Rattle.dob_update.proofs.Common.{nat_tests}
-use Rattle.dob_update.proofs.Common.{◌++◌, ◌+◌, ◌-◌, ◌<◌, ◌∙◌, ◌∷◌, ◌≡◌, ◌≤◌, List, [], ap, arith, drop, get_or, inl, inr, length, length-drop}
-use Rattle.dob_update.proofs.Common.{refl, sym, take, ℕ, cases_lt, append-nil, append_assoc, drop-append-le, drop-drop}
-use Rattle.dob_update.proofs.Common.{drop_all, drop_at, drop_more, map-append, take-append-le, take-take, take_all, map, Family}
-use Rattle.dob_update.proofs.Common.{Item, Settlement, item_for, left_after, front, items_in_all, items_of_parts}
-use Rattle.dob_update.proofs.Common.{AreItemsRun, PartView}
+use Rattle.dob_update.proofs.Common.{◌++◌, ◌+◌, ◌-◌, ◌<◌, ◌∙◌, ◌∷◌, ◌≡◌, ◌≤◌, [], AreItemsRun, Family, Item, List, PartView, Settlement, ap, append-nil}
+use Rattle.dob_update.proofs.Common.{append_assoc, arith, cases_lt, drop, drop-append-le, drop-drop, drop_all, drop_at, drop_more, front, get_or, inl, inr}
+use Rattle.dob_update.proofs.Common.{item_for, items_in_all, items_of_parts, items_of_parts-length, left_after, length, length-drop, map, map-append, nat_tests}
+use Rattle.dob_update.proofs.Common.{refl, sym, take, take-append-le, take-take, take_all, ℕ}
 use Rattle.std.proofs.lemmas.List.{take-append-drop, drop-take, take_at, map_more, get_or-drop}
 use Rattle.dob_update.proofs.PartLists.{front-zero, left_after-within, left_after-past}
-use Rattle.dob_share.proofs.PartItems.{items_of_parts-length}
 use Rattle.dob_update.proofs.Runs.{total-front}
 
 -- one part more, with its classes

@@ -1,8 +1,6 @@
 -- Lists of parts: what is taken from their front, and what is left behind it.
-use Rattle.dob_update.proofs.Common.{nat_tests}
-use Rattle.dob_update.proofs.Common.{◌++◌, ◌+◌, ◌-◌, ◌<◌, ◌∙◌, ◌∷◌, ◌≡◌, ◌≤◌, List, [], ap, arith, drop, get_or, length, refl, sym}
-use Rattle.dob_update.proofs.Common.{take, ℕ, append-nil, drop_all, Settlement, AreWhole, left_after, front}
-use Rattle.dob_update.proofs.Common.{items_in_all, skip_after, with_number, PartView}
+use Rattle.dob_update.proofs.Common.{◌++◌, ◌+◌, ◌-◌, ◌<◌, ◌∙◌, ◌∷◌, ◌≡◌, ◌≤◌, [], AreWhole, List, PartView, Settlement, ap, append-nil, arith, drop, drop_all}
+use Rattle.dob_update.proofs.Common.{front, get_or, items_in_all, left_after, length, nat_tests, refl, skip_after, sym, take, with_number, ℕ}
 
 -- ---- what stands in front
 pub front-zero : (parts : List PartView) → front 0 parts ≡ []

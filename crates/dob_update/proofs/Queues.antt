@@ -1,14 +1,12 @@
 -- Queues: as many items as classes, one settlement more, and what is left without the first items.
-use Rattle.dob_update.proofs.Common.{◌++◌, ◌+◌, ◌-◌, ◌<◌, ◌∙◌, ◌∷◌, ◌≡◌, ◌≤◌, List, [], ap, append-nil, arith, drop, get_or, inl, inr, length, length-append, length-drop}
-use Rattle.dob_update.proofs.Common.{AreQueued, Item, PartView, Settlement, cases_lt, item_for, items_in_all, items_of_parts, left_after, map, nat_tests, refl, subst, sym, ℕ}
-use Rattle.dob_update.proofs.Common.{◌==◌, ◌^◌, Bool, cond, false, min, room_of, true, with_number, with_part}
-use Rattle.std.proofs.Common.{Some, slice_get}
+use Rattle.dob_update.proofs.Common.{◌++◌, ◌+◌, ◌-◌, ◌<◌, ◌==◌, ◌^◌, ◌∙◌, ◌∷◌, ◌≡◌, ◌≤◌, [], All, AreQueued, Bool, HasItem, Item, List, PartView, Settlement}
+use Rattle.dob_update.proofs.Common.{Some, ap, append-nil, arith, cases_lt, cond, drop, false, get_or, inl, inr, item_for, items_in_all, items_of_parts}
+use Rattle.dob_update.proofs.Common.{left_after, length, length-append, length-drop, map, min, nat_tests, refl, room_of, slice_get, subst, sym, true}
+use Rattle.dob_update.proofs.Common.{with_number, with_part, ℕ}
 use Rattle.std.proofs.lemmas.List.{nil_from_length}
 use Rattle.std.proofs.lemmas.List.Elements.{All-append, All-cons, All-head, All-nil, All-tail}
 use Rattle.std.proofs.lemmas.Option.{slice_get-get_or}
-use Rattle.std.specs.List.{All}
 use Rattle.dob_distance.specs.declared.value.Value.TheVariants.{Draw}
-use Rattle.dob_share.specs.Items.{HasItem}
 use Rattle.dob_share.proofs.PartItems.{items_of_parts-length, part_item}
 use Rattle.dob_update.proofs.PartItems.{items_of_parts-behind, items_of_parts-push, total-push}
 use Rattle.dob_update.proofs.PartLists.{left_after-within, left_after-past}

@@ -1,13 +1,10 @@
 -- Runs of items, and the parts that they belong to.
-use Rattle.dob_update.proofs.Common.{nat_tests}
-use Rattle.dob_update.proofs.Common.{◌++◌, ◌+◌, ◌-◌, ◌<◌, ◌==◌, ◌^◌, ◌∙◌, ◌∷◌, ◌≡◌, ◌≤◌, Bool, List, [], ap, arith, cond, drop, false, inl, inr, length}
-use Rattle.dob_update.proofs.Common.{length-append, length-drop, length-take-le, min, refl, subst, sym, take, true, ℕ, cases_lt}
-use Rattle.dob_update.proofs.Common.{append-nil, append_assoc, drop-append-le, drop-drop, drop_at, length-map, map-append, take-append-le, take-take, Family}
-use Rattle.dob_update.proofs.Common.{predecessors, Item, Settlement, BatchView, IsBatch, IsFront, IsOutbox, OutboxView, items_for, items_of, AreParts, AreWhole}
-use Rattle.dob_update.proofs.Common.{left_after, front, items_in_all, settlement_of, settlements_of, skip_after, with_number, IsItemRun, IsRest, count_for, PartView}
-use Rattle.std.proofs.lemmas.List.Elements.{All-cons, All-nil}
-use Rattle.std.specs.List.{All}
-use Rattle.dob_share.specs.Items.{HasItem}
+use Rattle.dob_update.proofs.Common.{◌++◌, ◌+◌, ◌-◌, ◌<◌, ◌==◌, ◌^◌, ◌∙◌, ◌∷◌, ◌≡◌, ◌≤◌, [], All, All-cons, All-nil, AreParts, AreWhole, BatchView, Bool}
+use Rattle.dob_update.proofs.Common.{Family, HasItem, IsBatch, IsFront, IsItemRun, IsOutbox, IsRest, Item, List, OutboxView, PartView, Settlement, ap}
+use Rattle.dob_update.proofs.Common.{append-nil, append_assoc, arith, cases_lt, cond, count_for, drop, drop-append-le, drop-drop, drop_at, false, front, inl}
+use Rattle.dob_update.proofs.Common.{inr, items_for, items_in_all, items_of, left_after, length, length-append, length-drop, length-map, length-take-le}
+use Rattle.dob_update.proofs.Common.{map-append, min, nat_tests, predecessors, refl, settlement_of, settlements_of, skip_after, subst, sym, take}
+use Rattle.dob_update.proofs.Common.{take-append-le, take-take, true, with_number, ℕ}
 use Rattle.dob_update.specs.Batches.{HasItemIn}
 use Rattle.dob_update.proofs.PartLists.{left_after-within, left_after-past, skip-within, skip-past}
 

@@ -1,7 +1,6 @@
 // Outboxes: what an owner has still to send to another.
 ghost use Rattle.std.specs.Prelude.{◌≡◌, ◌≢◌, ◌<◌, ◌≤◌, ◌+◌, ◌^◌, ◌↔◌, ℕ, [], ◌++◌, length, take};
 ghost use Rattle.std.specs.Prelude.{vec_len, vec_capacity, IsTrue, IsSome, IsNone, IfOk, IfSome, OnOk, OnErr};
-ghost use Rattle.dob_distance.specs.Codes.{IsEntry};
 ghost use Rattle.dob_unmove.specs.Edges.{predecessors};
 ghost use Rattle.dob_share.specs.declared.news.Settlement.{Settlement as Settled};
 ghost use Rattle.dob_share.specs.Items.{items_of, items_in_all};
@@ -12,7 +11,7 @@ use crate::batch::Batch;
 use crate::queue::ItemQueue;
 use crate::sizes::BatchSize;
 use dob_pieces::{Family, Memory};
-use dob_share::{Item, Part, Settlement};
+use dob_share::{Item, News, Part, Settlement};
 use std::alloc::Global;
 use std::marker::Model;
 
@@ -99,36 +98,38 @@ impl Outbox {
         Ok(())
     }
 
-    /// Adds a settlement, whose values are such as a table can have, with its items for the receiver; one without items isn't listed,
-    /// and takes no memory. After `Memory` the outbox has the same to send.
+    /// Adds a settlement with its items for the receiver; one without items isn't listed, and takes no memory.
+    ///
+    /// # Errors
+    ///
+    /// `Memory`, after which the outbox has the same to send; also where a value is none that a table can have, for which there is no room.
     pub fn add(&mut self, settlement: Settlement, items: &[Item]) -> Result<(), Memory>
-        requires was { IsEntry settlement.was }
-        requires now { IsEntry settlement.now }
-        requires items { items.now ≡ items_of (predecessors self.old.sends.family) self.old.sends.n self.old.sends.to settlement }
+        requires { items.now ≡ items_of (predecessors self.old.sends.family) self.old.sends.n self.old.sends.to settlement }
         ensures ok { OnOk result (self.new.sends ≡ added self.old.sends settlement items.now) }
         ensures err { OnErr result ((self.new.sends ≡ self.old.sends) × (items.now ≢ [])) }
     {
         if items.is_empty() {
             return Ok(());
         }
+        let Some(news) = News::of(settlement) else {
+            return Err(Memory);
+        };
         let queue = &mut self.queue;
         queue.reserve(items.len())?;
-        queue.add(settlement, items);
+        queue.add(&news, items);
         Ok(())
     }
 
     /// Adds a settlement of whose class these are the predecessors, with an item for each of them that the receiver owns, and for which
     /// there is room; one without items isn't listed. It is `add` for a caller that has no items, so that none are made before a batch is cut.
-    pub fn add_targets(&mut self, settlement: Settlement, targets: &[u64])
-        requires was { IsEntry settlement.was }
-        requires now { IsEntry settlement.now }
+    pub fn add_targets(&mut self, news: &News, targets: &[u64])
         requires owners { 0 < self.old.sends.n }
-        requires targets { targets.now ≡ predecessors self.old.sends.family settlement.class }
+        requires targets { targets.now ≡ predecessors self.old.sends.family news.now.class }
         requires room { length targets.now ≤ self.old.room }
-        ensures { self.new.sends ≡ added self.old.sends settlement (items_of (λ _. targets.now) self.old.sends.n self.old.sends.to settlement) }
+        ensures { self.new.sends ≡ added self.old.sends news.now (items_of (λ _. targets.now) self.old.sends.n self.old.sends.to news.now) }
     {
         let queue = &mut self.queue;
-        queue.add_owned(settlement, targets, self.nodes, self.to);
+        queue.add_owned(news, targets, self.nodes, self.to);
     }
 
     /// Cuts a batch of the first items, `size` of them, or of all if fewer are left, and `None` if none is, which

@@ -9,7 +9,7 @@ ghost use Rattle.dob_update.specs.Parts.{left_after};
 ghost use Rattle.dob_update.specs.Queues.{queued, with_part};
 
 use dob_pieces::Memory;
-use dob_share::{Item, Part, Settlement, item_for};
+use dob_share::{Item, News, Part, item_for};
 use std::alloc::Global;
 use std::marker::Model;
 
@@ -135,32 +135,28 @@ impl ItemQueue {
     }
 
     /// Appends these items, which are the settlement's and for which there is room; without any the settlement isn't listed.
-    pub(crate) fn add(&mut self, settlement: Settlement, items: &[Item])
-        requires was { IsEntry settlement.was }
-        requires now { IsEntry settlement.now }
-        requires room { length items.now ≤ self.old.room }
-        ensures parts { self.new.parts ≡ with_part self.old.parts settlement (length items.now) }
+    pub(crate) fn add(&mut self, news: &News, items: &[Item])
+        requires { length items.now ≤ self.old.room }
+        ensures parts { self.new.parts ≡ with_part self.old.parts news.now (length items.now) }
         ensures classes { self.new.classes ≡ self.old.classes ++ map target_of items.now }
     {
         push_classes(&mut self.classes, items);
-        push_part(&mut self.parts, settlement, items.len());
+        push_part(&mut self.parts, news, items.len());
     }
 
     /// Appends the settlement's items for the owner `to`, one of `nodes`; `targets` are the classes with a move into the settled one,
     /// and there is room for an item of each. Without an item the settlement isn't listed.
-    pub fn add_owned(&mut self, settlement: Settlement, targets: &[u64], nodes: usize, to: usize)
-        requires was { IsEntry settlement.was }
-        requires now { IsEntry settlement.now }
+    pub fn add_owned(&mut self, news: &News, targets: &[u64], nodes: usize, to: usize)
         requires owners { 0 < nodes }
         requires room { length targets.now ≤ self.old.room }
-        ensures parts { self.new.parts ≡ with_part self.old.parts settlement (length (filter (λ class. owner_of nodes class == to) targets.now)) }
+        ensures parts { self.new.parts ≡ with_part self.old.parts news.now (length (filter (λ class. owner_of nodes class == to) targets.now)) }
         ensures classes { self.new.classes ≡ self.old.classes ++ filter (λ class. owner_of nodes class == to) targets.now }
-        ensures items { queued self.new ≡ queued self.old ++ items_of (λ _. targets.now) nodes to settlement }
+        ensures items { queued self.new ≡ queued self.old ++ items_of (λ _. targets.now) nodes to news.now }
     {
         let before = self.classes.len();
         push_owned(&mut self.classes, targets, nodes, to);
         let items = self.classes.len() - before;
-        push_part(&mut self.parts, settlement, items);
+        push_part(&mut self.parts, news, items);
     }
 
     /// Drops the first `k` items, of which there are as many.
@@ -181,15 +177,13 @@ impl ItemQueue {
 }
 
 // Appends the settlement with that number of items, where it has some; for such there is room.
-fn push_part(parts: &mut Vec<Part>, settlement: Settlement, items: usize)
-    requires was { IsEntry settlement.was }
-    requires now { IsEntry settlement.now }
+fn push_part(parts: &mut Vec<Part>, news: &News, items: usize)
     requires few { items < 2 ^ 32 }
     requires room { 0 < items → vec_len parts.old < vec_capacity parts.old }
-    ensures { parts.new.items ≡ with_part parts.old.items settlement items }
+    ensures { parts.new.items ≡ with_part parts.old.items news.now items }
 {
     if items > 0 {
-        parts.push_reserved(Part::new(settlement, items));
+        parts.push_reserved(Part::new(news, items));
     }
 }
 

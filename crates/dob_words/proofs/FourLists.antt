@@ -1,11 +1,11 @@
 -- The rows of four constants, one list after the other.
-use Rattle.dob_words.proofs.Common.{◌++◌, ◌≡◌, Bool, List, None, Option, Some, arith, drop, is_some, list_any, take, HasCommandShape, ProfileNames}
+use Rattle.dob_words.proofs.Common.{◌++◌, ◌≡◌, Bool, List, None, Option, Some, arith, is_some, list_any, HasCommandShape, ProfileNames}
 use Rattle.dob_words.proofs.Common.{bare_app, dobutsu_app, with_rows}
 use Rattle.dob_words.specs.Shapes.{first_app}
 use Rattle.std.specs.Option.{option_or}
 use Rattle.std.proofs.lemmas.List.Folds.{list_any-append}
 use Rattle.clap.specs.declared.builder.Command.{Command}
-use Rattle.dob_words.specs.Forms.{Row, rows}
+use Rattle.dob_words.specs.Forms.{Row, first_rows, last_rows, later_rows, middle_rows}
 
 -- something is found in one of two lists where it is found in both of them together
 found_in_either : {X Y : Type 0} (p : Y → Bool) (xs ys : List Y) (a b : Option X) → is_some a ≡ list_any p xs → is_some b ≡ list_any p ys
@@ -23,11 +23,11 @@ found_in_four p ws xs ys zs a b c d first second third fourth =
     found_in_either p ((ws ++ xs) ++ ys) zs (option_or (option_or a b) c) d three fourth
 
 -- the program's command has the subcommands of all rows
-pub program_of : (profiles : ProfileNames) (ys zs : List Row) (c : Command) → ys ≡ take 3 (drop 12 rows) → zs ≡ drop 15 rows
+pub program_of : (profiles : ProfileNames) (ys zs : List Row) (c : Command) → ys ≡ later_rows → zs ≡ last_rows
     → HasCommandShape (with_rows profiles (with_rows profiles (first_app profiles) ys) zs) c → HasCommandShape (dobutsu_app profiles) c
 program_of profiles ys zs c third fourth shape = rw (third, fourth) at shape
 
 -- and before them those of the first ones
-pub first_of : (profiles : ProfileNames) (ws xs : List Row) (c : Command) → ws ≡ take 6 rows → xs ≡ take 6 (drop 6 rows)
+pub first_of : (profiles : ProfileNames) (ws xs : List Row) (c : Command) → ws ≡ first_rows → xs ≡ middle_rows
     → HasCommandShape (with_rows profiles (with_rows profiles bare_app ws) xs) c → HasCommandShape (first_app profiles) c
 first_of profiles ws xs c first second shape = rw (first, second) at shape

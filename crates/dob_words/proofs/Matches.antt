@@ -1,6 +1,6 @@
 -- The texts of a subcommand, from its own matches, which form's matches they are, and the row of its name.
-use Rattle.dob_words.proofs.Common.{◌∙◌, ◌∷◌, ◌≡◌, List, None, Option, Some, [], ap, ap₂, arith, codes, false, inl, inr, length, map, refl, rules, subst, suc}
-use Rattle.dob_words.proofs.Common.{sym, true, true≢false, ℕ, Ok-from_Ok_iff, bytes_eq-Decides, Bor, list_any, option_map, unwrap_or, bytes_eq}
+use Rattle.dob_words.proofs.Common.{◌∙◌, ◌∷◌, ◌≡◌, List, None, Option, Some, [], ap, ap₂, arith, codes, false, inl, inr, map, refl, rules, subst}
+use Rattle.dob_words.proofs.Common.{sym, true, true≢false, ℕ, Ok-from_Ok_iff, Bor, list_any, option_map, unwrap_or}
 use Rattle.dob_words.proofs.Common.{first_value-rows, first_of, subcommand_rows_of, IsReadFor, Finds, HasFit, IsMet, IsMetBySome, IsNamed, is_stream_in, texts_in}
 use Rattle.dob_words.proofs.Common.{asks, cleared, is_number, number_in, without_conflict, Order}
 use Rattle.std.specs.Prelude.{Err, is_err, Result}

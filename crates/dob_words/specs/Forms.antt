@@ -1,5 +1,5 @@
 -- The subcommands of the program: what each of them takes, by its row in src/rows.rt.
-use Rattle.std.specs.Prelude.{ℕ, Bool, true, false, not, List, [], ◌++◌, map, find, unwrap_or}
+use Rattle.std.specs.Prelude.{ℕ, ◌+◌, Bool, true, false, not, List, [], ◌++◌, length, take, drop, map, find, unwrap_or}
 use Rattle.std.specs.List.{filter, list_any}
 use Rattle.std.specs.Str.{bytes_eq}
 use Rattle.dob_words.specs.declared.table.ArgumentKind.{ArgumentKind}
@@ -61,6 +61,19 @@ rows = map (λ r. (
   map (λ f. f.0.now) r.4.now,
   map (λ p. (p.0.now, p.1, p.2)) r.5.now,
 )) (FIRST_ROWS.now ++ MIDDLE_ROWS.now ++ LATER_ROWS.now ++ LAST_ROWS.now)
+
+-- those of each of its lists
+abbrev pub first_rows : List Row
+first_rows = take (length FIRST_ROWS.now) rows
+
+abbrev pub middle_rows : List Row
+middle_rows = take (length MIDDLE_ROWS.now) (drop (length FIRST_ROWS.now) rows)
+
+abbrev pub later_rows : List Row
+later_rows = take (length LATER_ROWS.now) (drop (length FIRST_ROWS.now + length MIDDLE_ROWS.now) rows)
+
+abbrev pub last_rows : List Row
+last_rows = drop (length FIRST_ROWS.now + length MIDDLE_ROWS.now + length LATER_ROWS.now) rows
 
 abbrev pub is_number_kind : ArgumentKind → Bool
 is_number_kind kind.Number = true

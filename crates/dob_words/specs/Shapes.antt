@@ -1,6 +1,6 @@
 -- What `clap` reads of the program's commands.
 use Rattle.std.specs.Borrow.{Bor}
-use Rattle.std.specs.Prelude.{◌≡◌, ◌&&◌, ◌⊎◌, ◌++◌, Bool, List, [], ◌∷◌, Option, None, Some, codes, drop, false, fold, if◌then◌else◌, map, not, take, true}
+use Rattle.std.specs.Prelude.{◌≡◌, ◌&&◌, ◌⊎◌, ◌++◌, Bool, List, [], ◌∷◌, Option, None, Some, codes, false, fold, if◌then◌else◌, map, not, true}
 use Rattle.std.specs.List.{list_any}
 use Rattle.std.specs.Str.{bytes_eq}
 use Rattle.clap.specs.declared.builder.Arg.{Arg}
@@ -14,7 +14,7 @@ use Rattle.clap.specs.declared.builder.value_parser.ValueParser.TheVariants.{Nam
 use Rattle.dob_words.specs.declared.table.Presence.{Presence}
 use Rattle.dob_words.specs.declared.table.ArgumentKind.{ArgumentKind}
 use Rattle.dob_words.specs.declared.table.ArgumentKind.TheVariants as kind
-use Rattle.dob_words.specs.Forms.{OptionArgument, Form, Argument, Row, Text, forms, is_among, is_may, is_needed, labels, rows}
+use Rattle.dob_words.specs.Forms.{OptionArgument, Form, Argument, Row, Text, first_rows, forms, is_among, is_may, is_needed, labels, middle_rows}
 use Rattle.dob_words.specs.Words.{fits, is_misplaced}
 
 -- the command is read so, and none of its arguments is one of each subcommand too
@@ -129,7 +129,7 @@ with_rows profiles = fold (λ app row. with_subcommand app (row_app profiles row
 
 -- the program with its first twelve subcommands
 abbrev pub first_app : ProfileNames → App
-first_app profiles = with_rows profiles (with_rows profiles bare_app (take 6 rows)) (take 6 (drop 6 rows))
+first_app profiles = with_rows profiles (with_rows profiles bare_app first_rows) middle_rows
 
 abbrev pub IsProgram : Command → Type 0
 IsProgram c = (profiles : ProfileNames) × AreProfiles profiles × HasCommandShape (dobutsu_app profiles) c

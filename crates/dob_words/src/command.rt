@@ -9,11 +9,11 @@
 // - in dob_cli an arm of `owed_by` in specs/Orders.antt and one of `answer` in program.rt, with a line in its Answers.antt; and where a value table's file makes
 //   its answer right, an arm of `rightly` in proofs/Orders.antt.
 // What is asked of a position by a file, as `best --db FILE POSITION`, is a form of a `Question` instead, and asked by `--each` too.
-ghost use Rattle.std.specs.Prelude.{◌≡◌, [], IfOk, IfSome, List, Option, drop, false, is_some, map, take, true};
+ghost use Rattle.std.specs.Prelude.{◌≡◌, [], IfOk, IfSome, List, Option, false, is_some, map, true};
 ghost use Rattle.std.specs.List.{list_any};
 ghost use Rattle.std.specs.Str.{bytes_eq};
 ghost use Rattle.clap.specs.Words.{App, kind_of, new_app, subcommand_rows_of};
-ghost use Rattle.dob_words.specs.Forms.{Form, Text, form_named, forms, rows};
+ghost use Rattle.dob_words.specs.Forms.{Form, Text, first_rows, form_named, forms, last_rows, later_rows, middle_rows, rows};
 ghost use Rattle.dob_words.specs.Lines.{IsAmong, IsCommandLine};
 ghost use Rattle.dob_words.specs.Words.{Meaning, asks, has_topic, is_topic, is_version, meaning_of, meaning_of_topic, names_subcommand, without_conflict};
 ghost use Rattle.dob_words.specs.Shapes.{AreProfiles, Finds, HasCommandShape, HasFit, IsMetBySome, IsNamed, IsProgram, IsRead, bare_app, choice_rule, choice_said, first_app, flag_rule, flag_said, is_stream_in, place_rule, place_said, row_app, row_said, texts_in, with_rows, with_rules};
@@ -184,28 +184,28 @@ fn first_command<'a>(alloc: Global, profiles: Profiles<'a>) -> Result<Command<'a
 
 // The first six subcommands.
 fn first_rows<'a>() -> &'a [SubcommandRow]
-    ensures { map row_said result.now ≡ take 6 rows }
+    ensures { map row_said result.now ≡ first_rows }
 {
     FIRST_ROWS
 }
 
 // The seventh to the twelfth subcommand.
 fn middle_rows<'a>() -> &'a [SubcommandRow]
-    ensures { map row_said result.now ≡ take 6 (drop 6 rows) }
+    ensures { map row_said result.now ≡ middle_rows }
 {
     MIDDLE_ROWS
 }
 
 // The thirteenth to the fifteenth subcommand.
 fn later_rows<'a>() -> &'a [SubcommandRow]
-    ensures { map row_said result.now ≡ take 3 (drop 12 rows) }
+    ensures { map row_said result.now ≡ later_rows }
 {
     LATER_ROWS
 }
 
 // The subcommands from the sixteenth on.
 fn last_rows<'a>() -> &'a [SubcommandRow]
-    ensures { map row_said result.now ≡ drop 15 rows }
+    ensures { map row_said result.now ≡ last_rows }
 {
     LAST_ROWS
 }

@@ -24,7 +24,7 @@ pub use Rattle.dob_unmove.specs.Edges.{predecessors}
 pub use Rattle.dob_safra.proofs.Kept.{lawful_fits, moved_kept}
 pub use Rattle.dob_safra.proofs.Sums.{sum_same}
 pub use Rattle.dob_safra.specs.Laws.{IsRingQuiet, IsSize}
-pub use Rattle.dob_safra.specs.Rings.{AllTaken, AllWhite, CountsStay, IsLawfulRing, Moved, Ring, counter, in_flight, sum_below}
+pub use Rattle.dob_safra.specs.Rings.{AllTaken, AllWhite, CountsStay, IsLawfulRing, Moved, Ring, counter, in_flight, sum_below, Raises}
 pub use Rattle.dob_safra.specs.declared.token.Token.{Token}
 pub use Rattle.dob_share.specs.Cells.{Cell, CellCanTake, CellValue, SameCell, changed, fresh}
 pub use Rattle.dob_share.specs.Owners.{owner_of}
@@ -75,3 +75,4 @@ pub use Rattle.dob_world.specs.declared.event.Event.{Event}
 pub use Rattle.dob_world.specs.declared.event.Event.TheVariants.{Announce, Expand, Own, Pass, Post, Take}
 pub use Rattle.dob_world.specs.declared.lane.Lane.{Lane}
 pub use Rattle.dob_world.specs.declared.world.World.{World}
+pub use Rattle.std.proofs.Math.IntN.{◌-ℤ◌}

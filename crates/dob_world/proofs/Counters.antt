@@ -1,10 +1,9 @@
 -- The detector's counts after an event, and the counters that are read from them.
-use Rattle.dob_world.proofs.Common.{◌*◌, ◌+◌, ◌<◌, ◌^◌, ◌∙◌, ◌≡◌, ◌≤◌, ◌≤ℤ◌, FitsSigned, List, add-one, arith, get_or, get_or-set_other, get_or-set_same, inl, inr}
-use Rattle.dob_world.proofs.Common.{ints, length, of_z, pos, set, subst, suc, sym, to_z, w64, ℕ, get_or_default, mul-add-lt, same_from_place, slice_index, sum_below}
-use Rattle.dob_world.proofs.Common.{to_z-of_z}
+use Rattle.dob_world.proofs.Common.{◌*◌, ◌+◌, ◌<◌, ◌^◌, ◌∙◌, ◌≡◌, ◌≤ℤ◌, ◌≤◌, FitsSigned, List, Raises, add-one, arith, get_or, get_or-set_other}
+use Rattle.dob_world.proofs.Common.{get_or-set_same, get_or_default, inl, inr, ints, length, mul-add-lt, of_z, pos, same_from_place, set, slice_index, subst}
+use Rattle.dob_world.proofs.Common.{suc, sum_below, sym, to_z, to_z-of_z, w64, ℕ}
 use Rattle.std.proofs.Math.IntN.{ℤ, neg_ℤ, ◌-ℤ◌}
 use Rattle.std.proofs.lemmas.Int.{to_z_pos}
-use Rattle.dob_safra.specs.Rings.{Raises}
 
 -- ---- lists by pairs of nodes
 inside : (n : ℕ) (counts : List ℕ) (i j : ℕ) → i < n → j < n → length counts ≡ n * n → i * n + j < length counts

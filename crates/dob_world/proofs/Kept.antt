@@ -1,13 +1,13 @@
 -- What each event keeps, and any events one after another: nodes stay lawful and linked, settlements keep their falls, the next item
 -- always fits, for few classes none goes too deep, and a ring that matches its world still does.
-use Rattle.dob_world.proofs.Common.{◌++◌, ◌+◌, ◌<◌, ◌^◌, ◌∙◌, ◌∷◌, ◌≡◌, ◌≢◌, ◌≤◌, ◌⊎◌, List, [], ap, append_assoc, arith, drop, false, inl, inr, length, subst}
-use Rattle.dob_world.proofs.Common.{sym, take, true, ℕ, cases_Bool, cases_eq, append-nil, length-append, take-append-drop, slice_get_within, classes_of}
-use Rattle.dob_world.proofs.Common.{predecessors, moved_kept, IsSize, CountsStay, IsLawfulRing, Moved, Ring, Item, Settlement, BatchView, items_of_batches}
-use Rattle.dob_world.proofs.Common.{items_from, items_of, BuildFault, emitted_all, emitted_grown, emitted_more, CanApply, Applies, AppliesItems, AppliesOwn}
-use Rattle.dob_world.proofs.Common.{CanHappen, ExpandsAt, Happens, LinksStay, NodesStay, Posts, TakesBatch, EventsKeepAll, HappeningKeepsAll}
-use Rattle.dob_world.proofs.Common.{HappeningKeepsMatch, ListsAreBeginnings, OwnItemFits, TakenItemFits, HasAtMost, IsForMemory, IsStopBy}
-use Rattle.dob_world.proofs.Common.{AreLawful, HaveFallsIn, IsLinked, IsNodeIdle, Matches, Nodes, Setting, State, WorldView, emitted_in, items_in, value_in}
-use Rattle.dob_world.proofs.Common.{Event, Announce, Expand, Own, Pass, Post, Take}
+use Rattle.dob_world.proofs.Common.{◌++◌, ◌+◌, ◌<◌, ◌^◌, ◌∙◌, ◌∷◌, ◌≡◌, ◌≢◌, ◌≤◌, ◌⊎◌, [], Announce, Applies, AppliesItems, AppliesOwn, AreLawful, BatchView}
+use Rattle.dob_world.proofs.Common.{BuildFault, CanApply, CanHappen, CountsStay, Event, EventsKeepAll, Expand, ExpandsAt, HappeningKeepsAll}
+use Rattle.dob_world.proofs.Common.{HappeningKeepsMatch, Happens, HasAtMost, HaveFallsIn, IsForMemory, IsLawfulRing, IsLinked, IsNodeIdle, IsSize, IsStopBy}
+use Rattle.dob_world.proofs.Common.{Item, LinksStay, List, ListsAreBeginnings, Matches, Moved, Nodes, NodesStay, Own, OwnItemFits, Pass, Post, Posts, Ring}
+use Rattle.dob_world.proofs.Common.{Setting, Settlement, State, Take, TakenItemFits, TakesBatch, WorldView, ap, append-nil, append_assoc, arith, cases_Bool}
+use Rattle.dob_world.proofs.Common.{cases_eq, classes_of, drop, emitted_all, emitted_grown, emitted_in, emitted_more, false, inl, inr, items_from, items_in}
+use Rattle.dob_world.proofs.Common.{items_of, items_of_batches, length, length-append, moved_kept, predecessors, slice_get_within, subst, sym, take}
+use Rattle.dob_world.proofs.Common.{take-append-drop, true, value_in, ℕ}
 use Rattle.dob_share.specs.Shares.{GoesTooDeep}
 use Rattle.dob_update.proofs.BatchItems.{items_in_more}
 use Rattle.dob_history.proofs.Kept.{better_apart}

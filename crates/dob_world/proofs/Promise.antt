@@ -1,18 +1,17 @@
 -- The promise of the whole: of a world of opened nodes with empty lanes, in worlds that stand and after any events; and what is left of it
 -- after a stop.
-use Rattle.dob_world.proofs.Common.{◌%◌, ◌*◌, ◌++◌, ◌+◌, ◌-◌, ◌/◌, ◌<◌, ◌^◌, ◌∙◌, ◌∷◌, ◌≡◌, ◌≢◌, ◌≤◌, List, None, Option, Some, [], ap, append_assoc, arith}
-use Rattle.dob_world.proofs.Common.{cond, false, inl, inr, length, refl, slice_get, subst, sym, take, true, ℕ, mod-add-div', cases_Bool, cases_eq, lt-ltb}
-use Rattle.dob_world.proofs.Common.{true≢false, ints, take_all, All-nil, All, MatchOption, some_at, one_status, HasStatus, Status, Open, class_setup}
-use Rattle.dob_world.proofs.Common.{classes_of, IsEntry, Draw, predecessors, sum_same, IsRingQuiet, AllTaken, AllWhite, IsLawfulRing, Ring, in_flight}
-use Rattle.dob_world.proofs.Common.{sum_below, Token, CellValue, SameCell, fresh, owner_of, cell_at, places_of, Settlement, Opening, OutboxView}
-use Rattle.dob_world.proofs.Common.{items_of_batches, items_from, BuildFault, Stopped, kept_sound, below_owner, items_from-append, some_known, start_sums}
-use Rattle.dob_world.proofs.Common.{SumsUp-same, value_follows, IsChained, value_of, known_of, outbox_to, Node, IsStopped, IsWorldUnchanged, CanHappen, Happens}
-use Rattle.dob_world.proofs.Common.{AreBeginnings, HaveKnownValues, Headline, IsBatchTo, EndIsRest, EndIsSilent, HeadlineHolds, RestIsRight, RestStays}
-use Rattle.dob_world.proofs.Common.{LinkView, IsAfter, lane_at, part, ring_of, setting_of, state_of, nodes_shown, world_shown, AreInPlace, HasAtMost}
-use Rattle.dob_world.proofs.Common.{HasOpenings, IsLeft, IsNodeOf, IsSetting, IsStanding, Stand, StandsOrStopped, AreEmptyLanes, AreOpenedNodes, IsEmptyLane}
-use Rattle.dob_world.proofs.Common.{IsWorldStart, IsForMemory, IsLeftBy, TakesFront, AreLawful, HaveFallsIn, IsAtRest, IsLinked, Matches, Nodes, Setting, State}
-use Rattle.dob_world.proofs.Common.{WorldView, emitted_in, items_in, value_in, waiting_batches, Detector, Event, Announce, Expand, Own, Pass, Post, Take, Lane}
-use Rattle.dob_world.proofs.Common.{World}
+use Rattle.dob_world.proofs.Common.{◌%◌, ◌*◌, ◌++◌, ◌+◌, ◌-◌, ◌/◌, ◌<◌, ◌^◌, ◌∙◌, ◌∷◌, ◌≡◌, ◌≢◌, ◌≤◌, [], All, All-nil, AllTaken, AllWhite, Announce}
+use Rattle.dob_world.proofs.Common.{AreBeginnings, AreEmptyLanes, AreInPlace, AreLawful, AreOpenedNodes, BuildFault, CanHappen, CellValue, Detector, Draw}
+use Rattle.dob_world.proofs.Common.{EndIsRest, EndIsSilent, Event, Expand, Happens, HasAtMost, HasOpenings, HasStatus, HaveFallsIn, HaveKnownValues, Headline}
+use Rattle.dob_world.proofs.Common.{HeadlineHolds, IsAfter, IsAtRest, IsBatchTo, IsChained, IsEmptyLane, IsEntry, IsForMemory, IsLawfulRing, IsLeft, IsLeftBy}
+use Rattle.dob_world.proofs.Common.{IsLinked, IsNodeOf, IsRingQuiet, IsSetting, IsStanding, IsStopped, IsWorldStart, IsWorldUnchanged, Lane, LinkView, List}
+use Rattle.dob_world.proofs.Common.{MatchOption, Matches, Node, Nodes, None, Open, Opening, Option, OutboxView, Own, Pass, Post, RestIsRight, RestStays, Ring}
+use Rattle.dob_world.proofs.Common.{SameCell, Setting, Settlement, Some, Stand, StandsOrStopped, State, Status, Stopped, SumsUp-same, Take, TakesFront, Token}
+use Rattle.dob_world.proofs.Common.{World, WorldView, ap, append_assoc, arith, below_owner, cases_Bool, cases_eq, cell_at, class_setup, classes_of, cond}
+use Rattle.dob_world.proofs.Common.{emitted_in, false, fresh, in_flight, inl, inr, ints, items_from, items_from-append, items_in, items_of_batches, kept_sound}
+use Rattle.dob_world.proofs.Common.{known_of, lane_at, length, lt-ltb, mod-add-div', nodes_shown, one_status, outbox_to, owner_of, part, places_of}
+use Rattle.dob_world.proofs.Common.{predecessors, refl, ring_of, setting_of, slice_get, some_at, some_known, start_sums, state_of, subst, sum_below, sum_same}
+use Rattle.dob_world.proofs.Common.{sym, take, take_all, true, true≢false, value_follows, value_in, value_of, waiting_batches, world_shown, ℕ}
 use Rattle.dob_moves.specs.MoveLists.{moves_of}
 use Rattle.dob_share.proofs.Applied.{CellValue-same}
 use Rattle.dob_history.specs.Quiet.{FollowsAtStatus}

@@ -12,7 +12,7 @@ use dob_classes::Classes;
 use dob_history::opening;
 use dob_lists::SegmentLength;
 use dob_node::Node;
-use dob_pieces::Family;
+use dob_pieces::{Family, Memory};
 use dob_safra::NodeCount;
 use dob_share::BuildFault;
 use dob_update::{BatchSize, Capacity};
@@ -43,7 +43,7 @@ impl World {
     ghost use Rattle.dob_share.specs.declared.build_fault.BuildFault.TheVariants as fault;
     ghost use Rattle.dob_world.specs.Stops.{IsStop, IsForMemory};
     ghost use Rattle.dob_world.specs.Shown.{setting_of, state_of};
-    ghost use Rattle.dob_world.specs.Standing.{IsStanding, StandsOrStopped};
+    ghost use Rattle.dob_world.specs.Standing.{IsSetting, IsStanding, StandsOrStopped};
     ghost use Rattle.dob_world.specs.Effects.{IsMade, IsEventDone, IsSkipped, IsStopped};
     ghost use Rattle.dob_world.specs.Lanes.{AreTwo};
     ghost use Rattle.dob_world.specs.Start.{IsWorldStart};
@@ -78,6 +78,22 @@ impl World {
         let Some(capacity) = Capacity::new(capacity) else {
             return Err(BuildFault::Sizes);
         };
+        Ok(World::opened(alloc, family, node_count, batch_size, capacity)?)
+    }
+
+    // The world of that setting.
+    fn opened(
+        alloc: Global,
+        family: Family,
+        node_count: NodeCount,
+        batch_size: BatchSize,
+        capacity: Capacity,
+    ) -> Result<World, Memory>
+        requires { IsSetting (setting_by family node_count batch_size capacity) }
+        ensures setting { IfOk result (λ world. setting_of world ≡ setting_by family node_count batch_size capacity) }
+        ensures standing { IfOk result (λ world. IsStanding world × (world.failed ≡ None) × (world.steps ≡ 0)) }
+        ensures opened { IfOk result (λ world. IsWorldStart (setting_of world) (state_of world)) }
+    {
         let classes = Classes::open(alloc, family)?;
         let openings = opening(alloc, &classes, SegmentLength::longest())?;
         let nodes = open_nodes(alloc, &openings, family, node_count)?;

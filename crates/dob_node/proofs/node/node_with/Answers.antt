@@ -1,9 +1,6 @@
 -- What is opened is sound.
-use Rattle.dob_node.proofs.Common.{◌∙◌, ◌≡◌, HistoryView, List, OutboxView, Settlement, ap, arith, refl, sends_of, subst}
-use Rattle.std.proofs.Common.{ap₂}
-use Rattle.std.proofs.lemmas.List.{length-map}
-use Rattle.dob_share.specs.Items.{items_of_parts}
-use Rattle.dob_node.proofs.Common.{OutboxState}
+use Rattle.dob_node.proofs.Common.{◌∙◌, ◌≡◌, HistoryView, List, OutboxState, OutboxView, Settlement, ap, ap₂, arith, items_of_parts, length-map, refl, sends_of}
+use Rattle.dob_node.proofs.Common.{subst}
 use Rattle.dob_node.proofs.Opens.{places_are, share_opened, opened_cells, opened_kept}
 use Rattle.dob_node.proofs.Sends.{addressed_empty}
 use Rattle.dob_node.proofs.node.node_with.Goals as goal

@@ -1,8 +1,6 @@
 -- One outbox more has the settlement, or is left out.
-use Rattle.std.proofs.Common.{◌≤◌, arith, vec_len}
-use Rattle.std.proofs.lemmas.List.{get_or-map, length-map}
-use Rattle.dob_node.proofs.Common.{◌<◌, ◌∙◌, ◌≡◌, OutboxState, OutboxView, added, ap, empty_outbox, get_or, get_or-set_other, items_of, length, length-set, predecessors}
-use Rattle.dob_node.proofs.Common.{refl, sends_of, subst, sym}
+use Rattle.dob_node.proofs.Common.{◌<◌, ◌∙◌, ◌≡◌, ◌≤◌, OutboxState, OutboxView, added, ap, arith, empty_outbox, get_or, get_or-map, get_or-set_other, items_of}
+use Rattle.dob_node.proofs.Common.{length, length-map, length-set, predecessors, refl, sends_of, subst, sym, vec_len}
 use Rattle.dob_node.proofs.Sends.{added_none, added_own, added_one, addressed_still, sends_set}
 use Rattle.dob_node.proofs.outboxes.add_for_others.Goals.{then-to-from, else-to-from, After-len-nodes}
 use Rattle.dob_node.proofs.outboxes.add_for_others.Goals as goal
@@ -15,7 +13,7 @@ count_is c = c.len-nodes.ensures ∙ c.args.outboxes.now.ok.0 ∙ sym (length-ma
 
 pub loop-to-init : goal.loop-to-init
 loop-to-init c = record {
-  added = added_none c.args.targets.now c.args.settlement c.len-nodes.result c.args.from (sends_of c.args.outboxes.now.items);
+  added = added_none c.args.targets.now c.args.news.now c.len-nodes.result c.args.from (sends_of c.args.outboxes.now.items);
   later = λ k default high. refl;
   whole = refl;
 }
@@ -25,7 +23,7 @@ add_to-requires-clause-of c = λ default.
     let at = (goal.at.add_to-requires-clause-of c).After-len-nodes in
     let k = c.loop-to.to in
     let mid = c.loop-to.outboxes in
-    let s = c.args.settlement in
+    let s = c.args.news.now in
     let targets = c.args.targets.now in
     let low : k < length mid.items = omega (arith, c.loop-to-test.true, c.len-nodes.ensures, c.args.outboxes.now.ok.0, c.loop-to.invariant.whole) in
     let of = subst (λ (o : OutboxView). (o.n ≡ vec_len mid) × (o.to ≡ k) × (targets ≡ predecessors o.family s.class)) (get_or-map sends mid.items k default default.sends low)
@@ -39,7 +37,7 @@ loop-to-preserved c =
     let at = (goal.at.loop-to-preserved c).After-len-nodes in
     let k = c.loop-to.to in
     let mid = c.loop-to.outboxes in
-    let s = c.args.settlement in
+    let s = c.args.news.now in
     let more = items_of (λ _. c.args.targets.now) (vec_len mid) k s in
     let low : k < length mid.items = omega (arith, c.loop-to-test.true, c.len-nodes.ensures, c.args.outboxes.now.ok.0, c.loop-to.invariant.whole) in
     elim c.if-to-from.branch [

@@ -4,7 +4,7 @@ use Rattle.dob_node.proofs.outboxes.add_for_others.Given as goal
 
 abbrev pub invariant-loop-to : goal.invariant-loop-to
 invariant-loop-to l = record {
-  added : AreAdded l.targets l.settlement l.nodes l.from l.to (sends_of l.initial.outboxes.items) (sends_of l.outboxes.items);
+  added : AreAdded l.targets l.news l.nodes l.from l.to (sends_of l.initial.outboxes.items) (sends_of l.outboxes.items);
   later : (k : ℕ) (default : OutboxState) → l.to ≤ k → get_or l.outboxes.items k default ≡ get_or l.initial.outboxes.items k default;
   whole : length l.outboxes.items ≡ length l.initial.outboxes.items;
 }

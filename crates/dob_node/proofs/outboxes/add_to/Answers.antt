@@ -10,7 +10,7 @@ returns c = (
   λ default.
       let outboxes = c.args.outboxes.now in
       let read = c.index_mut-outbox.result.now in
-      let s = c.args.settlement in
+      let s = c.args.news.now in
       let targets = c.args.targets.now in
       let low : c.args.to < length outboxes.items = search rules in
       let is : read ≡ get_or outboxes.items c.args.to default

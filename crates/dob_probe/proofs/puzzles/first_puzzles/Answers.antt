@@ -1,5 +1,5 @@
 -- The puzzles of one place more, until there are as many as were asked for.
-use Rattle.dob_probe.proofs.Common.{◌<◌, ◌≡◌, [], arith, inl, inr, length, refl, rules, slice_get_within, ℕ, IsOrder, begin_at, class_on, places_in, Puzzle, Win}
+use Rattle.dob_probe.proofs.Common.{◌<◌, ◌∙◌, ◌≡◌, arith, inl, inr, length, refl, slice_get_within, ℕ, IsOrder, begin_at, class_on, places_in, Puzzle, Win}
 use Rattle.dob_probe.proofs.OnlyMoves.{ended, next_few, puzzles_next, puzzles_none, puzzles_same, puzzles_too_long}
 use Rattle.dob_probe.proofs.Walked.{few_classes, order_covers}
 use Rattle.dob_probe.proofs.puzzles.first_puzzles.Goals as goal
@@ -33,16 +33,15 @@ class_on-requires c = rw c.places_in-end.ensures at c.loop-place-test.true
 pub loop-place-init : goal.loop-place-init
 loop-place-init c =
     let at = begin_is (goal.at.loop-place-init c).After-begin_at-begin in
-    let empty : c.new-list.result.items ≡ [] = c.new-list.ensures.items in
-    rw (empty, c.new-outlines.ensures.items, at)
-    (omega arith, omega arith, puzzles_none c.args.table.now c.args.plies c.args.walk c.order_of-order.result, tt)
+    rw (c.new-2.ensures.items, c.new-3.ensures.items, at)
+    (omega arith, omega arith, puzzles_none c.args.table.now c.args.plies c.args.walk c.order_of-order.result, tt, c.is_some.ensures)
 
 pub returns-then-len-count : goal.returns-then-len-count
 returns-then-len-count c =
-    let list = c.loop-place.list.items in
+    let list = c.loop-place.search.list.items in
     let is = is_order (goal.at.returns-then-len-count c).After-order_of-order in
     let full : length list ≡ c.args.count =
-    omega (arith, c.loop-place.list.ok.0, c.loop-place.invariant.1, c.if-len-count.true, c.len.ensures) in
+    omega (arith, c.loop-place.search.list.ok.0, c.loop-place.invariant.1, c.if-len-count.true, c.len.ensures) in
     ended c.args.table.now c.args.plies c.args.walk c.order_of-order.result is c.loop-place.place c.args.count list (omega (arith, full)) (inl full)
     c.loop-place.invariant.2
 
@@ -52,7 +51,7 @@ loop-place-preserved c =
     let plies = c.args.plies in
     let walk = c.args.walk in
     let place : ℕ = c.loop-place.place in
-    let list = c.loop-place.list.items in
+    let list = c.loop-place.search.list.items in
     let invariant = c.loop-place.invariant in
     let order = c.order_of-order.result in
     let known = goal.at.loop-place-preserved c in
@@ -64,23 +63,23 @@ loop-place-preserved c =
           let puzzle : Puzzle = w.in-Some.puzzle in
           let found = rw w.in-Some.is at c.puzzle_of.ensures in
           let next = w.in_ok-list_puzzle.ensures.listed in
-          let more = next_few table plies walk order c.is_some-is_spread.result list w.list_puzzle.new.list.items puzzle next in
-          rw (w.list-is, w.outlines-is) (
+          let more = next_few table plies walk order c.loop-place.search.is_spread list w.list_puzzle.new.search.list.items puzzle next in
+          rw w.search-is (
             omega (arith, invariant.0),
-            omega (arith, more, c.loop-place.list.ok.0, c.if-len-count.false, c.len.ensures),
-            puzzles_next table plies walk order place c.class_on.result here on covered c.is_some-is_spread.result list w.list_puzzle.new.list.items puzzle
-                c.is_some-is_spread.ensures invariant.0 found next invariant.2,
+            omega (arith, more, c.loop-place.search.list.ok.0, c.if-len-count.false, c.len.ensures),
+            puzzles_next table plies walk order place c.class_on.result here on covered c.loop-place.search.is_spread list w.list_puzzle.new.search.list.items puzzle
+                invariant.4 invariant.0 found next invariant.2,
             w.in_ok-list_puzzle.ensures.outlines,
+            w.in_ok-list_puzzle.ensures.spread ∙ invariant.4,
           )
       | in_default w ↦
           let missing = rw w.in_default.is at c.puzzle_of.ensures in
-          let same : c.match-puzzle_of.list.items ≡ list = search rules in
-          let same_outlines : c.match-puzzle_of.outlines.items ≡ c.loop-place.outlines.items = search rules in
-          rw (same, same_outlines) (
+          rw w.search-is (
             omega (arith, invariant.0),
             invariant.1,
             puzzles_same table plies walk order place c.class_on.result here on covered list missing invariant.2,
             invariant.3,
+            invariant.4,
           )
     ]
 
@@ -89,7 +88,7 @@ returns c =
     let known = goal.at.returns c in
     let all = rw (end_is known.After-places_in-end) at c.loop-place-test.false in
     ended c.args.table.now c.args.plies c.args.walk c.order_of-order.result (is_order known.After-order_of-order) c.loop-place.place c.args.count
-    c.loop-place.list.items c.loop-place.invariant.1 (inr all) c.loop-place.invariant.2
+    c.loop-place.search.list.items c.loop-place.invariant.1 (inr all) c.loop-place.invariant.2
 
 -- the puzzle that was found is of a class of the table
 pub list_puzzle-requires-clause-within : goal.list_puzzle-requires-clause-within

@@ -1,6 +1,5 @@
 -- The items for the classes so far are appended, and there is room for the others.
-use Rattle.dob_update.proofs.Common.{◌++◌, ◌+◌, ◌≡◌, drop, take, map, item_for}
-use Rattle.std.proofs.Common.{vec_len, vec_capacity}
+use Rattle.dob_update.proofs.Common.{◌++◌, ◌+◌, ◌≡◌, drop, item_for, map, take, vec_capacity, vec_len}
 use Rattle.dob_update.proofs.batch.push_part_items.Given as goal
 
 abbrev pub invariant-loop-index : goal.invariant-loop-index

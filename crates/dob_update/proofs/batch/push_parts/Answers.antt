@@ -1,6 +1,5 @@
 -- Each part's classes are there, and its items are appended.
-use Rattle.std.proofs.Common.{arith, refl, rules}
-use Rattle.dob_update.proofs.Common.{ap, items_in_all}
+use Rattle.dob_update.proofs.Common.{ap, arith, items_in_all, refl, rules}
 use Rattle.dob_update.proofs.PartItems.{next_part, making_within, making_more, making_all}
 use Rattle.dob_update.proofs.batch.push_parts.Goals as goal
 

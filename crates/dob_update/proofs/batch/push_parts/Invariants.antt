@@ -1,6 +1,5 @@
 -- The items of the parts so far, and room for those of the others.
-use Rattle.std.proofs.Common.{◌+◌, ◌≤◌, drop, vec_len, vec_capacity}
-use Rattle.dob_update.proofs.Common.{items_in_all}
+use Rattle.dob_update.proofs.Common.{◌+◌, ◌≤◌, drop, items_in_all, vec_capacity, vec_len}
 use Rattle.dob_update.proofs.PartItems.{IsMaking}
 use Rattle.dob_update.proofs.batch.push_parts.Given as goal
 

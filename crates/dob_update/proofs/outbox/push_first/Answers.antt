@@ -1,6 +1,5 @@
 -- There is room for the first classes.
-use Rattle.std.proofs.Common.{Bool}
-use Rattle.dob_update.proofs.Common.{◌++◌, ◌∙◌, ap, arith, cond, length-take-le, take}
+use Rattle.dob_update.proofs.Common.{◌++◌, ◌∙◌, Bool, ap, arith, cond, length-take-le, take}
 use Rattle.dob_update.proofs.outbox.push_first.Goals as goal
 
 pub returns : goal.returns

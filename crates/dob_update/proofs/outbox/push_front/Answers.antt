@@ -1,7 +1,5 @@
 -- The last part is moved in part, or nothing is left to be moved.
-use Rattle.std.proofs.Common.{arith}
-use Rattle.dob_update.proofs.Common.{◌++◌, ◌∙◌, ◌∷◌, ◌≡◌, List, PartView, [], ap, drop, get_or, rules, sym}
-use Rattle.std.proofs.lemmas.List.{drop_more}
+use Rattle.dob_update.proofs.Common.{◌++◌, ◌∙◌, ◌∷◌, ◌≡◌, [], List, PartView, ap, arith, drop, drop_more, get_or, rules, sym}
 use Rattle.dob_update.proofs.PartLists.{moved_all, moved_last}
 use Rattle.dob_update.proofs.outbox.push_front.Goals.{then-rest-gt0, else-rest-gt0}
 use Rattle.dob_update.proofs.outbox.push_front.Goals as goal

@@ -1,6 +1,5 @@
 -- What is left to be moved, and room for as many parts.
-use Rattle.std.proofs.Common.{vec_capacity, vec_len}
-use Rattle.dob_update.proofs.Common.{◌+◌, ◌≤◌, drop}
+use Rattle.dob_update.proofs.Common.{◌+◌, ◌≤◌, drop, vec_capacity, vec_len}
 use Rattle.dob_update.proofs.PartLists.{IsDropping, IsMoving}
 use Rattle.dob_update.proofs.outbox.push_front.Given as goal
 

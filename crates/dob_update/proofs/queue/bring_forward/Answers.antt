@@ -1,5 +1,5 @@
 -- One more has come, until all have.
-use Rattle.dob_update.proofs.Common.{◌+◌, ◌-◌, ◌≡◌, arith, drop, length, subst, take, ℕ}
+use Rattle.dob_update.proofs.Common.{◌+◌, ◌≡◌, arith, drop, length, subst, take, ℕ}
 use Rattle.dob_update.proofs.Forward.{coming_all, coming_none}
 use Rattle.dob_update.proofs.queue.bring_forward.Goals as goal
 

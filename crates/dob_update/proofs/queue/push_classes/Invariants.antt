@@ -1,6 +1,5 @@
 -- The classes so far are appended, and there is room for the others.
-use Rattle.std.proofs.Common.{vec_capacity, vec_len}
-use Rattle.dob_update.proofs.Common.{◌++◌, ◌+◌, ◌-◌, ◌≡◌, ◌≤◌, length, map, take, target_of}
+use Rattle.dob_update.proofs.Common.{◌++◌, ◌+◌, ◌-◌, ◌≡◌, ◌≤◌, length, map, take, target_of, vec_capacity, vec_len}
 use Rattle.dob_update.proofs.queue.push_classes.Given as goal
 
 abbrev pub invariant-loop-item : goal.invariant-loop-item

@@ -1,6 +1,5 @@
 -- The owner's among the targets so far are appended, and there is room for the others.
-use Rattle.std.proofs.Common.{vec_capacity, vec_len}
-use Rattle.dob_update.proofs.Common.{◌++◌, ◌+◌, ◌-◌, ◌==◌, ◌≡◌, ◌≤◌, filter, length, owner_of, take}
+use Rattle.dob_update.proofs.Common.{◌++◌, ◌+◌, ◌-◌, ◌==◌, ◌≡◌, ◌≤◌, filter, length, owner_of, take, vec_capacity, vec_len}
 use Rattle.dob_update.proofs.queue.push_owned_by.Given as goal
 
 abbrev pub invariant-loop-class : goal.invariant-loop-class

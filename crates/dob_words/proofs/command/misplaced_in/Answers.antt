@@ -1,6 +1,6 @@
 -- A row of one of the four lists has a stream.
-use Rattle.dob_words.proofs.Common.{◌∙◌, Bool, List, ap, drop, take, list_any, is_stream_in}
-use Rattle.dob_words.specs.Forms.{Row, rows}
+use Rattle.dob_words.proofs.Common.{◌∙◌, Bool, List, ap, list_any, is_stream_in}
+use Rattle.dob_words.specs.Forms.{Row, first_rows, last_rows, later_rows, middle_rows}
 use Rattle.dob_words.proofs.FourLists.{found_in_four}
 use Rattle.dob_words.proofs.command.misplaced_in.Goals as goal
 
@@ -9,6 +9,6 @@ returns c =
     let is : Row → Bool = is_stream_in c.args.name.now c.args.inner.now in
     let among : List Row → Bool = list_any is in
     rw (c.or-3.ensures, c.or-2.ensures, c.or.ensures)
-    (found_in_four is (take 6 rows) (take 6 (drop 6 rows)) (take 3 (drop 12 rows)) (drop 15 rows) c.stream_of.result c.stream_of-2.result c.stream_of-3.result
+    (found_in_four is first_rows middle_rows later_rows last_rows c.stream_of.result c.stream_of-2.result c.stream_of-3.result
     c.stream_of-4.result (c.stream_of.ensures ∙ ap among c.first_rows.ensures) (c.stream_of-2.ensures ∙ ap among c.middle_rows.ensures)
     (c.stream_of-3.ensures ∙ ap among c.later_rows.ensures) (c.stream_of-4.ensures ∙ ap among c.last_rows.ensures))

@@ -1,7 +1,5 @@
 -- One lane more is opened.
-use Rattle.dob_world.proofs.Common.{◌++◌, ◌+◌, ◌∙◌, ◌∷◌, ◌≡◌, List, [], ap, inl, inr, subst, sym, ℕ, length-append, at_end}
-use Rattle.dob_world.specs.Start.{AreEmptyLanes, IsEmptyLane}
-use Rattle.dob_world.specs.declared.lane.Lane.{Lane}
+use Rattle.dob_world.proofs.Common.{◌++◌, ◌+◌, ◌∙◌, ◌∷◌, ◌≡◌, [], AreEmptyLanes, IsEmptyLane, Lane, List, ap, at_end, inl, inr, length-append, subst, sym, ℕ}
 use Rattle.dob_world.proofs.parts.open_lanes.Goals as goal
 
 lanes_more : (capacity m : ℕ) (lanes new : List Lane) (lane : Lane) → AreEmptyLanes capacity m lanes → IsEmptyLane capacity lane → new ≡ lanes ++ lane ∷ []

@@ -1,9 +1,7 @@
 -- The batch cut is the last that waits on the lane, whose link has room, and its items are listed as sent.
-use Rattle.dob_world.proofs.Common.{◌++◌, ◌∙◌, ◌∷◌, ◌≡◌, ◌≤◌, IfSome, [], ap, length, refl, subst, BatchView, HasCut, link_of}
+use Rattle.dob_world.proofs.Common.{◌++◌, ◌∙◌, ◌∷◌, ◌≡◌, ◌≤◌, [], BatchView, HasCut, IfSome, ap, length, link_of, outbox_to, refl, subst, vec_len}
 use Rattle.dob_world.proofs.Firsts.{went_well}
 use Rattle.std.proofs.Common.{◌+◌, ap₂, arith, length-take, min, ℕ}
-use Rattle.std.specs.Prelude.{vec_len}
-use Rattle.dob_node.specs.Nodes.{outbox_to}
 use Rattle.dob_world.proofs.steps.post.Goals as goal
 
 -- there is room for what was counted, the lesser of two numbers

@@ -1,8 +1,7 @@
 -- The lane's first batch is one for the node, which takes and lists its items, or stops at one of them.
-use Rattle.dob_world.proofs.Common.{◌++◌, ◌∙◌, ◌∷◌, ap, length, refl, rules, subst, sym, take, All-head, All, BatchView, before_since, taken_since, IsBatchTo, link_of}
+use Rattle.dob_world.proofs.Common.{◌++◌, ◌∙◌, ◌∷◌, All, All-head, BatchView, IsBatchTo, ap, arith, before_since, length, length-append, link_of, refl, rules}
+use Rattle.dob_world.proofs.Common.{subst, sym, take, taken_since}
 use Rattle.dob_world.proofs.Firsts.{front_is}
-use Rattle.std.proofs.Common.{arith}
-use Rattle.std.proofs.lemmas.List.{length-append}
 use Rattle.dob_world.proofs.steps.receive.Goals as goal
 
 pub apply_batch-requires : goal.apply_batch-requires

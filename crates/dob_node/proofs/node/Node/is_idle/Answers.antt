@@ -1,6 +1,5 @@
 -- Nothing is left where each list is empty.
-use Rattle.dob_node.proofs.Common.{arith, rules, sends_of}
-use Rattle.std.proofs.lemmas.Grind.{common_steps}
+use Rattle.dob_node.proofs.Common.{arith, common_steps, rules, sends_of}
 use Rattle.dob_node.proofs.Sends.{all_empty, all_sent, empty_all, sent_all}
 use Rattle.dob_node.proofs.node.Node.is_idle.Goals as goal
 

@@ -1,10 +1,7 @@
 -- What is taken is kept.
-use Rattle.dob_node.proofs.Common.{err_from_is_err_and, going, rules}
-use Rattle.dob_history.proofs.Kepts.{kept_own}
+use Rattle.dob_node.proofs.Common.{◌∙◌, ◌≡◌, List, ap, err_from_is_err_and, going, kept_own, length, length-map, rules, sym, ℕ}
 use Rattle.dob_history.proofs.TakenLists.{kept_with_room, stops_first}
 use Rattle.dob_node.proofs.TakenLists.{applies_err, applies_ok, none_before, still_sound}
-use Rattle.dob_node.proofs.Common.{◌≡◌, ◌∙◌, List, ap, length, sym, ℕ}
-use Rattle.std.proofs.lemmas.List.{length-map}
 use Rattle.dob_share.specs.Items.{items_of_parts, target_of}
 use Rattle.dob_node.proofs.node_core.Core.apply_batch.Goals as goal
 use Rattle.dob_node.proofs.node_core.Core.apply_batch.Goals.{After-classes}

@@ -1,10 +1,8 @@
 -- What is taken are the first of the own items, and gone.
-use Rattle.std.proofs.Common.{ap₂, drop}
-use Rattle.dob_node.proofs.Common.{◌++◌, ◌∙◌, ◌≡◌, Item, List, ap, arith, going, length, queued, refl, sym}
+use Rattle.dob_node.proofs.Common.{◌++◌, ◌∙◌, ◌≡◌, Item, List, ap, ap₂, arith, drop, going, kept_own, length, queued, refl, sym}
 use Rattle.dob_share.specs.Items.{items_in_all, items_of_parts}
 use Rattle.dob_share.proofs.PartItems.{items_of_parts-length}
 use Rattle.dob_history.specs.TakenItems.{TakesFirst}
-use Rattle.dob_history.proofs.Kepts.{kept_own}
 use Rattle.dob_history.proofs.TakenLists.{front_all, front_stops, front_taken}
 use Rattle.dob_node.proofs.TakenLists.{still_sound, fault_of, taken_within}
 use Rattle.dob_node.proofs.node_core.Core.apply_every_own.Goals.{After-take_parts-answer}

@@ -1,8 +1,5 @@
 -- What is taken is kept.
-use Rattle.std.proofs.lemmas.Grind.{common_steps}
-use Rattle.std.proofs.Common.{arith, drop}
-use Rattle.dob_node.proofs.Common.{◌∙◌, ◌∷◌, ◌≡◌, [], ap, going, queued, refl, sym}
-use Rattle.dob_history.proofs.Kepts.{kept_own}
+use Rattle.dob_node.proofs.Common.{◌∙◌, ◌∷◌, ◌≡◌, [], ap, arith, common_steps, drop, going, kept_own, queued, refl, sym}
 use Rattle.dob_node.proofs.TakenLists.{first_there, none_first, still_sound}
 use Rattle.dob_node.proofs.node_core.Core.apply_own.Goals as goal
 use Rattle.dob_node.proofs.node_core.Core.apply_own.Goals.{In-Some}

@@ -1,8 +1,6 @@
 -- The outboxes that are left are sound.
-use Rattle.std.proofs.lemmas.List.{get_or-map, length-map, map-set}
-use Rattle.dob_node.proofs.Common.{◌<◌, ◌∙◌, List, OutboxState, get_or, length, sends_of, ℕ}
-use Rattle.dob_node.proofs.Common.{◌≡◌, ◌≢◌, BatchView, IfSome, IsCutFrom, None, Option, OutboxView, [], ap, empty_outbox, going, outbox_in, refl, rules, set}
-use Rattle.dob_node.proofs.Common.{subst, sym}
+use Rattle.dob_node.proofs.Common.{◌<◌, ◌∙◌, ◌≡◌, ◌≢◌, [], BatchView, IfSome, IsCutFrom, List, None, Option, OutboxState, OutboxView, ap, empty_outbox, get_or}
+use Rattle.dob_node.proofs.Common.{get_or-map, going, length, length-map, map-set, outbox_in, refl, rules, sends_of, set, subst, sym, ℕ}
 use Rattle.std.proofs.Common.{IsNone}
 use Rattle.std.proofs.lemmas.Option.{IfSome_then}
 use Rattle.dob_node.proofs.Sends.{outbox_read, cut_read, sound_cut, cut_of}

@@ -1,7 +1,5 @@
 -- The items are for the classes that are listed.
-use Rattle.std.specs.Prelude.{map}
-use Rattle.dob_update.proofs.Common.{◌∙◌, ◌≡◌, subst, sym, BatchView, target_of}
-use Rattle.dob_share.proofs.PartItems.{targets_of_parts}
+use Rattle.dob_update.proofs.Common.{◌∙◌, ◌≡◌, BatchView, map, subst, sym, target_of, targets_of_parts}
 use Rattle.dob_update.proofs.batch.Batch.classes.Goals as goal
 
 pub returns : goal.returns

@@ -1,9 +1,6 @@
 -- The items are those of the parts, each of which has one.
-use Rattle.std.specs.List.{All}
-use Rattle.std.specs.Prelude.{map}
-use Rattle.dob_share.specs.Items.{HasItem}
-use Rattle.dob_update.proofs.Common.{◌∙◌, ◌≡◌, ap, length, subst, sym, BatchView, count_for, items_in_all, items_of_parts, target_of, List, PartView, ℕ}
-use Rattle.dob_share.proofs.PartItems.{targets_of_parts}
+use Rattle.dob_update.proofs.Common.{◌∙◌, ◌≡◌, All, BatchView, HasItem, List, PartView, ap, count_for, items_in_all, items_of_parts, length, map, subst, sym}
+use Rattle.dob_update.proofs.Common.{target_of, targets_of_parts, ℕ}
 use Rattle.dob_update.proofs.Runs.{parts_have}
 use Rattle.dob_update.proofs.batch.Batch.parts.Goals as goal
 

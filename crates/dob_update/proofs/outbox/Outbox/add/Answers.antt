@@ -1,6 +1,6 @@
 -- One settlement more, with its items.
-use Rattle.dob_update.proofs.Common.{◌++◌, ◌<◌, ◌==◌, ◌^◌, ◌∙◌, ◌≡◌, Item, List, OutboxState, PartView, added, ap, arith, filter, item_for, items_of, length, length-map, map, owner_of}
-use Rattle.dob_update.proofs.Common.{predecessors, refl, rules, subst, sym, target_of, with_part, ℕ}
+use Rattle.dob_update.proofs.Common.{◌++◌, ◌<◌, ◌==◌, ◌^◌, ◌∙◌, ◌≡◌, Item, List, OutboxState, PartView, Settlement, added, ap, arith, filter, item_for}
+use Rattle.dob_update.proofs.Common.{items_of, length, length-map, map, owner_of, predecessors, refl, rules, subst, sym, target_of, with_part, ℕ}
 use Rattle.dob_share.proofs.PartItems.{targets_of_items}
 use Rattle.dob_update.proofs.Grown.{IsGrown, is_grown}
 use Rattle.dob_update.proofs.outbox.Outbox.add.Goals as goal
@@ -14,13 +14,15 @@ grown c =
     let items = c.args.items.now in
     let owned = filter (λ class. owner_of old.nodes class == old.to) (predecessors old.family s.class) in
     let are : items ≡ map (item_for s) owned
-    = subst (λ (o : OutboxState). items ≡ items_of (predecessors o.sends.family) o.sends.n o.sends.to s) (sym c.self.view_is) c.requires.items in
+    = subst (λ (o : OutboxState). items ≡ items_of (predecessors o.sends.family) o.sends.n o.sends.to s) (sym c.self.view_is) c.requires in
     let many : length items ≡ length owned = ap length are ∙ length-map owned (item_for s) in
     let low : length items < 2 ^ 64 = search rules in
+    let news : c.in-Some.news ≡ s = rw c.in-Some.is at c.of.ensures in
     subst (λ (xs : List Item). IsGrown old.family old.nodes old.to old.skip old.queue.parts c.add.new.self.parts old.queue.classes c.add.new.self.classes s xs) (sym are)
     (is_grown old.family old.nodes old.to old.skip old.queue.parts c.add.new.self.parts old.queue.classes c.add.new.self.classes s owned c.self.invariant
     (omega (arith, low, many)) refl
-    (c.add.ensures.parts ∙ ap (λ (ps : List PartView). with_part ps s (length items)) c.reserve.ensures.parts ∙ ap (λ (k : ℕ). with_part old.queue.parts s k) many)
+    (c.add.ensures.parts ∙ ap (λ (t : Settlement). with_part c.reserve.new.self.parts t (length items)) news
+    ∙ ap (λ (ps : List PartView). with_part ps s (length items)) c.reserve.ensures.parts ∙ ap (λ (k : ℕ). with_part old.queue.parts s k) many)
     (c.add.ensures.classes ∙ ap (λ (xs : List ℕ). xs ++ map target_of items) c.reserve.ensures.classes
     ∙ ap (λ (xs : List ℕ). old.queue.classes ++ xs) (ap (map target_of) are ∙ targets_of_items s owned)))
 

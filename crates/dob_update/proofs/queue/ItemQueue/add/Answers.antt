@@ -8,6 +8,6 @@ invariant_of-self c =
     let old = c.self.inside in
     let more = map target_of c.args.items.now in
     subst (λ (ps : List PartView). AreQueued ps c.push_classes.new.classes.items)
-    (sym (c.push_part.ensures ∙ ap (λ (k : ℕ). with_part old.parts.items c.args.settlement k) (sym (length-map c.args.items.now target_of))))
-    (subst (λ (cs : List ℕ). AreQueued (with_part old.parts.items c.args.settlement (length more)) cs) (sym c.push_classes.ensures)
-    (one_more c.args.settlement more c.self.invariant).0)
+    (sym (c.push_part.ensures ∙ ap (λ (k : ℕ). with_part old.parts.items c.args.news.now k) (sym (length-map c.args.items.now target_of))))
+    (subst (λ (cs : List ℕ). AreQueued (with_part old.parts.items c.args.news.now (length more)) cs) (sym c.push_classes.ensures)
+    (one_more c.args.news.now more c.self.invariant).0)

@@ -1,7 +1,6 @@
 -- Parts and classes lose the same items.
-use Rattle.std.proofs.Common.{ap₂}
-use Rattle.dob_update.proofs.Common.{◌∙◌, ◌≡◌, ◌≤◌, List, PartView, QueueView, ap, arith, drop, drop_all, items_of_parts, left_after, length, queued, rules}
-use Rattle.dob_update.proofs.Common.{subst, sym}
+use Rattle.dob_update.proofs.Common.{◌∙◌, ◌≡◌, ◌≤◌, List, PartView, QueueView, ap, ap₂, arith, drop, drop_all, items_of_parts, left_after, length, queued}
+use Rattle.dob_update.proofs.Common.{rules, subst, sym}
 use Rattle.dob_update.proofs.Queues.{items_after, left_none, many_queued, queued_after}
 use Rattle.dob_update.proofs.queue.ItemQueue.drop_front.Goals as goal
 use Rattle.dob_update.proofs.queue.ItemQueue.drop_front.Goals.{After-len}

@@ -1,6 +1,5 @@
 -- A count of the node's row is added, and one of its column; the sums are small enough to be read as signed numbers.
-use Rattle.dob_world.proofs.Common.{◌*◌, ◌+◌, ◌<◌, ◌^◌, ◌∙◌, ◌≡◌, ◌≤◌, ap, arith, ints, pos, ℕ, ring_of, slice_index, sum_below}
-use Rattle.std.proofs.Math.IntN.{◌-ℤ◌}
+use Rattle.dob_world.proofs.Common.{◌*◌, ◌+◌, ◌-ℤ◌, ◌<◌, ◌^◌, ◌∙◌, ◌≡◌, ◌≤◌, ap, arith, ints, pos, ring_of, slice_index, sum_below, ℕ}
 use Rattle.dob_world.proofs.Counters.{difference, read_at, sum_more}
 use Rattle.dob_world.proofs.detector.Detector.counter.Goals as goal
 
