@@ -1,6 +1,6 @@
 // The classes of one block of a family: for each of the first hand's runs the number of classes in the block before it, and tables of marks for the runs in which
 // the lions don't say which positions are representatives. A run's positions are numbered among those of the family.
-ghost use Rattle.std.specs.Prelude.{◌≡◌, true, ◌<◌, ◌≤◌, ◌+◌, ◌*◌, ◌%◌, IfOk, vec_len, ℕ, List};
+ghost use Rattle.std.specs.Prelude.{◌≡◌, true, ◌<◌, ◌≤◌, ◌+◌, ◌*◌, ◌%◌, ◌^◌, IfOk, vec_len, ℕ, List};
 ghost use Rattle.dob_rank.specs.Numbers.{product, digits_of, bases_by, block_bases, block_size, start_of};
 ghost use Rattle.dob_rank.specs.Marks.{marks_below};
 ghost use Rattle.dob_rank.specs.Families.{is_marked};
@@ -113,13 +113,14 @@ impl BlockClasses {
         ensures mark { result.0 ≡ local_marks_in self.now.family self.now.number spot.run spot.local }
         ensures before { result.1 ≡ classes_before self.now.family self.now.number spot.run spot.local }
     {
-        let before = self.row_of(spot.run).before_run(spot.run);
-        let run = self.first_run(spot.run);
-        match run.kind {
+        let run = short(spot.run);
+        let before = self.row_of(run).before_run(run);
+        let first = self.first_run(run);
+        match first.kind {
             RunKind::First => (true, before + spot.local),
             RunKind::Later => (false, before),
             RunKind::Mixed => {
-                let (is_marked, marks) = self.mixed[run.table].look_up(spot.local);
+                let (is_marked, marks) = self.mixed[first.table].look_up(spot.local);
                 (is_marked, before + marks)
             }
         }
@@ -252,6 +253,14 @@ impl BlockClasses {
             Profile::B => local_at(&self.on_board, run % LIONS, number),
         }
     }
+}
+
+// The number of a run as one of 32 bits, which is divided in fewer steps.
+fn short(run: u64) -> u64
+    requires { run ≤ 2 ^ 12 }
+    ensures { result ≡ run }
+{
+    u64::from(run as u32)
 }
 
 // The digits of each run of the block.

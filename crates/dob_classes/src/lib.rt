@@ -4,8 +4,8 @@
 // Choices:
 // - Classes are stored by block, run and stretch; docs/CLASSES.md shows how, in numbers. The block is found from the last one backwards, which has most of
 //   the classes.
-// - A block's index promises only that its run comes no later than the class's (`RunIndex`); a walk forward finds the right one. How near it is costs time
-//   alone.
+// - A block keeps the first hand's runs alone (`FirstRun`): those of another hand have as many classes each, so that only the hands before are added. The
+//   hand of a class is found by a division, its lions by a search of seven steps.
 // - A block has the places of each choice of its squares, a run the digits that its positions share, so that sets of squares are found without a division by
 //   a base.
 // - `count_classes` makes the same walk without its list, over the runs of one hand and then times the hands, with no memory.

@@ -1,8 +1,8 @@
 -- The run in which the representative of a class stands: its hand by a division, since each hand has as many, and its lions among the first hand's.
-use Rattle.dob_classes.proofs.Common.{◌%◌, ◌*◌, ◌+◌, ◌-◌, ◌/◌, ◌<◌, ◌∙◌, ◌≡◌, ◌≤◌, ap, arith, refl, subst, sym, ℕ, div-add-mod', div-mul-add, div_below, Family}
+use Rattle.dob_classes.proofs.Common.{◌%◌, ◌*◌, ◌+◌, ◌-◌, ◌/◌, ◌<◌, ◌∙◌, ◌≡◌, ◌≤◌, ap, arith, refl, sym, ℕ, div-add-mod', div_below, Family}
 use Rattle.dob_classes.proofs.Common.{is_marked, marks_below-upto, mul-le-mul_right, run_size, run_start}
 use Rattle.dob_rank.proofs.InRuns.RunPlaces.{run_start-is}
-use Rattle.dob_classes.proofs.Common.{mod-mul-add, mod_below, block_bases, digits_of, lion_pairs, product, runs_in, classes_to_block, classes_to_run}
+use Rattle.dob_classes.proofs.Common.{mod-mul-add, block_bases, lion_pairs, product, runs_in, classes_to_block, classes_to_run}
 use Rattle.dob_rank.proofs.Arithmetic.MixedRadix.{factor_positive}
 use Rattle.dob_rank.proofs.InRuns.RunSums.{lions_there, runs_by_hand}
 use Rattle.dob_classes.proofs.MarksOfRuns.FamilyMarks.{classes_before_next, marks_of_lions, run_marks}

@@ -1,6 +1,6 @@
 -- The tables of the first hand's runs of a family and of their marks, as they grow and as they are read.
-use Rattle.dob_classes.proofs.Common.{◌%◌, ◌*◌, ◌++◌, ◌+◌, ◌-◌, ◌/◌, ◌<◌, ◌^◌, ◌∙◌, ◌∷◌, ◌≡◌, ◌≤◌, Bool, List, [], ap, arith, cond, false, length, refl}
-use Rattle.dob_classes.proofs.Common.{slice_index_or, subst, sym, true, ℕ, mul-le-mul_right, get_or_append_left, get_or_push, length-append}
+use Rattle.dob_classes.proofs.Common.{◌%◌, ◌*◌, ◌++◌, ◌+◌, ◌<◌, ◌^◌, ◌∙◌, ◌∷◌, ◌≡◌, ◌≤◌, Bool, List, [], ap, arith, cond, false, length, refl}
+use Rattle.dob_classes.proofs.Common.{slice_index_or, sym, true, ℕ, mul-le-mul_right, get_or_append_left, get_or_push, length-append}
 use Rattle.dob_classes.proofs.Common.{length_push, Family, start_small, marks_below-le, marks_below-upto, block_size-small, is_marked}
 use Rattle.dob_classes.proofs.Common.{marks_below, block_bases, product, lion_pairs, run_kind, run_start, runs_in, run_size}
 use Rattle.dob_classes.proofs.Common.{RunKind, First, Later, Mixed, IsInRunOf, classes_before, local_marks_in, run_size_in, AreRuns}

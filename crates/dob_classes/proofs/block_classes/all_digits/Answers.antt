@@ -1,5 +1,5 @@
 -- Each run's digits go to the end of the list.
-use Rattle.dob_classes.proofs.Common.{◌+◌, ◌≡◌, ◌<◌, ◌∙◌, ap, arith, length, length_push, subst, sym, vec_len, ℕ, HasDigits-numbers, digits_of, run_bases, run_digits, run_in_bases, runs_in}
+use Rattle.dob_classes.proofs.Common.{◌+◌, ◌≡◌, ◌∙◌, ap, arith, length, length_push, subst, sym, vec_len, ℕ, HasDigits-numbers, digits_of, run_bases, run_digits, run_in_bases}
 use Rattle.dob_rank.specs.declared.runs.RunDigits.{RunDigits}
 use Rattle.dob_classes.specs.RunTables.{AreDigits}
 use Rattle.dob_classes.proofs.Tables.Pushed.{each_pushed}

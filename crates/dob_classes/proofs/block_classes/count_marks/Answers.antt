@@ -1,5 +1,5 @@
 -- The kind of a run says how many marks it has, or its table does.
-use Rattle.dob_classes.proofs.Common.{◌≡◌, ◌<◌, ◌∙◌, ap, arith, false, refl, subst, sym, true, lion_pairs, marks_below, is_there, run_kind, runs_in, RunKind, ℕ, HasTable}
+use Rattle.dob_classes.proofs.Common.{◌∙◌, ap, arith, false, refl, subst, sym, true, marks_below, is_there, run_kind, ℕ, HasTable}
 use Rattle.dob_rank.proofs.InRuns.RunSums.{lions_same, lions_there}
 use Rattle.dob_classes.proofs.Tables.RunTables.{count_mixed, count_told, table_for}
 use Rattle.dob_classes.proofs.block_classes.count_marks.Goals as goal

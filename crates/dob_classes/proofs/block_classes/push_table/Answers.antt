@@ -1,6 +1,6 @@
 -- The new table stands behind the others.
 use Rattle.dob_classes.proofs.Tables.RunTables.{AreRuns-more, HasTable-new}
-use Rattle.dob_classes.proofs.Common.{◌∙◌, ap, sym}
+use Rattle.dob_classes.proofs.Common.{◌∙◌, ap}
 use Rattle.dob_rank.proofs.InRuns.RunSums.{lions_same, lions_there}
 use Rattle.dob_rank.specs.Runs.{run_kind}
 use Rattle.dob_classes.proofs.block_classes.push_table.Goals as goal

@@ -1,6 +1,6 @@
 -- The list has them.
-use Rattle.std.proofs.Common.{arith, subst, sym, ℕ}
-use Rattle.dob_classes.proofs.Common.{◌<◌, ◌≡◌, digits_of, run_bases, run_digits}
+use Rattle.std.proofs.Common.{arith, subst, sym}
+use Rattle.dob_classes.proofs.Common.{◌≡◌, digits_of, run_bases, run_digits}
 use Rattle.dob_rank.specs.declared.runs.RunDigits.{RunDigits}
 use Rattle.dob_classes.proofs.block_classes.BlockClasses.digits_of.Goals as goal
 

@@ -1,5 +1,5 @@
 -- The block's own numbers, and that of the first hand's run.
-use Rattle.std.proofs.Common.{◌∙◌, arith}
+use Rattle.std.proofs.Common.{arith}
 use Rattle.dob_classes.proofs.block_classes.BlockClasses.row_of.Goals as goal
 
 pub returns : goal.returns

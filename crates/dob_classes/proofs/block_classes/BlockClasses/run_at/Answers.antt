@@ -1,5 +1,5 @@
 -- Each hand has as many classes as the first one.
-use Rattle.dob_classes.proofs.Common.{◌%◌, ◌*◌, ◌+◌, ◌-◌, ◌/◌, ◌<◌, ◌≡◌, ◌≤◌, ◌∙◌, arith, lion_pairs, mod_below, refl, subst, ℕ, digits_of, product, block_bases}
+use Rattle.dob_classes.proofs.Common.{◌%◌, ◌*◌, ◌+◌, ◌-◌, ◌/◌, ◌<◌, ◌≤◌, arith, lion_pairs, mod_below, refl, ℕ, digits_of, product, block_bases}
 use Rattle.dob_classes.proofs.Common.{classes_to_block, BlockClasses}
 use Rattle.dob_rank.proofs.InRuns.RunPlaces.{runs_few}
 use Rattle.dob_rank.proofs.InRuns.RunSums.{runs_by_hand}
