@@ -74,10 +74,8 @@ pub record IsEnd {X Z : Type 0} (n : ℕ) (vs : List (Vec X Z)) (q r : ℕ) : Ty
   pub reached : q ≤ length vs
   pub opened : q ≡ length vs → (v : Vec X Z) → length v.items ≤ n →
       (joined (vs ++ v ∷ []) ≡ joined vs ++ v.items) × AreSegments n (vs ++ v ∷ [])
-  pub pushed : q < length vs → (d v : Vec X Z) (x : X) → v.items ≡ (get_or vs q d).items ++ x ∷ [] →
-      (joined (set vs q v) ≡ joined vs ++ x ∷ []) × AreSegments n (set vs q v)
-  pub same : q < length vs → (d v : Vec X Z) → v.items ≡ (get_or vs q d).items →
-      (joined (set vs q v) ≡ joined vs) × AreSegments n (set vs q v)
+  pub joins : q < length vs → (d v : Vec X Z) (more : List X) → v.items ≡ (get_or vs q d).items ++ more → r + length more ≤ n →
+      (joined (set vs q v) ≡ joined vs ++ more) × AreSegments n (set vs q v)
 
 first_full : {X Z : Type 0} (n : ℕ) (v : Vec X Z) (vs : List (Vec X Z)) → AreSegments n (v ∷ vs) →
     n ≤ length (v.items ++ joined vs) → length v.items ≡ n
@@ -89,19 +87,17 @@ pub place_after : {X Z : Type 0} (n q r : ℕ) → (vs : List (Vec X Z)) → Are
 place_after n zero r [] whole split below = record {
   reached = omega arith;
   opened = λ _ v fits. (append-nil v.items, (fits, λ h. absurd (omega arith), tt));
-  pushed = λ h. absurd (omega arith);
-  same = λ h. absurd (omega arith);
+  joins = λ h. absurd (omega arith);
 }
 place_after n (suc q) r [] whole split below = absurd (omega arith)
 place_after n zero r (v ∷ []) whole split below =
-    let most : length v.items < n = omega (arith, length-append v.items []) in record {
+    let long : length v.items ≡ r = omega (arith, length-append v.items [], split) in record {
       reached = omega arith;
       opened = λ h. absurd (omega arith);
-      pushed = λ _ d w x is. (
-        ap (λ xs. xs ++ []) is ∙ append-nil (v.items ++ x ∷ []) ∙ ap (λ xs. xs ++ x ∷ []) (sym (append-nil v.items)),
-        (rw is (omega (arith, length-append v.items (x ∷ []))), λ h. absurd (omega arith), tt),
+      joins = λ _ d w more is fits. (
+        ap (λ xs. xs ++ []) is ∙ append-nil (v.items ++ more) ∙ ap (λ xs. xs ++ more) (sym (append-nil v.items)),
+        (rw is (omega (arith, length-append v.items more, long, fits)), λ h. absurd (omega arith), tt),
       );
-      same = λ _ d w is. (ap (λ xs. xs ++ []) is, (rw is (omega arith), λ h. absurd (omega arith), tt));
     }
 place_after n zero r (v ∷ u ∷ us) whole split below =
     let full : length v.items ≡ n = whole.1 (omega arith) in
@@ -113,10 +109,8 @@ place_after n (suc q) r (v ∷ vs) whole split below =
       reached = let h = further.reached in omega arith;
       opened = λ h u fits. let more = further.opened (omega arith) u fits in
           (ap (λ xs. v.items ++ xs) more.0 ∙ sym (append_assoc v.items (joined vs) u.items), (whole.0, λ _. full, more.1));
-      pushed = λ h d w x is. let more = further.pushed (omega arith) d w x is in
-          (ap (λ xs. v.items ++ xs) more.0 ∙ sym (append_assoc v.items (joined vs) (x ∷ [])), (whole.0, λ _. full, more.1));
-      same = λ h d w is. let more = further.same (omega arith) d w is in
-          (ap (λ xs. v.items ++ xs) more.0, (whole.0, λ _. full, more.1));
+      joins = λ h d w xs is fits. let more = further.joins (omega arith) d w xs is fits in
+          (ap (λ ys. v.items ++ ys) more.0 ∙ sym (append_assoc v.items (joined vs) xs), (whole.0, λ _. full, more.1));
     }
 
 -- ---- by the quotient
@@ -163,31 +157,31 @@ module _ {X Z A : Type 0} (n i q r : ℕ) (vs : Vec (Vec X Z) A) (xs : List X) (
         found_at.1.kept w (ap length as_found ∙ length-set found_at.0.items r x),
       )
 
--- ---- an item is appended to the segment v, the last one
+-- ---- items are appended to the segment v, the last one
 
 module _ {X Z A : Type 0} (n i q : ℕ) (vs : Vec (Vec X Z) A) (xs : List X) (some : 0 < n) (whole : AreSegments n vs.items)
     (shown : joined vs.items ≡ xs) (count : i ≡ length xs) (q_is : q ≡ i / n) (opened : q < vec_len vs) where
-  ends_at : IsEnd n vs.items (i / n) (i % n)
-  ends_at = end_at n i vs.items some whole (count ∙ sym (ap length shown))
-
-  reached_at : i / n < length vs.items
-  reached_at = subst (λ (k : ℕ). k < length vs.items) q_is (subst (λ (k : ℕ). q < k) vs.ok.0 opened)
-
-  pub pushed_is : (v w : Vec X Z) (x : X) → v ≡ get_or vs.items q v → w.items ≡ v.items ++ x ∷ [] →
-      (joined (set vs.items q w) ≡ xs ++ x ∷ []) × AreSegments n (set vs.items q w)
-  pushed_is v w x is appended =
-      let more = ends_at.pushed reached_at v w x (appended ∙ ap (λ u. u.items ++ x ∷ []) (is ∙ ap (λ (k : ℕ). get_or vs.items k v) q_is)) in (
-        ap (λ (k : ℕ). joined (set vs.items k w)) q_is ∙ more.0 ∙ ap (λ ys. ys ++ x ∷ []) shown,
-        subst (λ (k : ℕ). AreSegments n (set vs.items k w)) (sym q_is) more.1,
+  pub joined_is : (v w : Vec X Z) (more : List X) → v ≡ get_or vs.items q v → w.items ≡ v.items ++ more → i % n + length more ≤ n →
+      (joined (set vs.items q w) ≡ xs ++ more) × AreSegments n (set vs.items q w)
+  joined_is v w more is appended fits =
+      let reached : i / n < length vs.items = subst (λ (k : ℕ). k < length vs.items) q_is (subst (λ (k : ℕ). q < k) vs.ok.0 opened) in
+      let all = (end_at n i vs.items some whole (count ∙ sym (ap length shown))).joins reached v w more
+      (appended ∙ ap (λ u. u.items ++ more) (is ∙ ap (λ (k : ℕ). get_or vs.items k v) q_is)) fits in (
+        ap (λ (k : ℕ). joined (set vs.items k w)) q_is ∙ all.0 ∙ ap (λ ys. ys ++ more) shown,
+        subst (λ (k : ℕ). AreSegments n (set vs.items k w)) (sym q_is) all.1,
       )
 
+  -- one more
+  pub pushed_is : (v w : Vec X Z) (x : X) → v ≡ get_or vs.items q v → w.items ≡ v.items ++ x ∷ [] →
+      (joined (set vs.items q w) ≡ xs ++ x ∷ []) × AreSegments n (set vs.items q w)
+  pushed_is v w x is appended = joined_is v w (x ∷ []) is appended (let below = mod_below i n some in omega (arith, below))
+
+  -- none
   pub same_is : (v w : Vec X Z) → v ≡ get_or vs.items q v → w.items ≡ v.items →
       (joined (set vs.items q w) ≡ xs) × AreSegments n (set vs.items q w)
   same_is v w is kept =
-      let more = ends_at.same reached_at v w (kept ∙ ap (λ u. u.items) (is ∙ ap (λ (k : ℕ). get_or vs.items k v) q_is)) in (
-        ap (λ (k : ℕ). joined (set vs.items k w)) q_is ∙ more.0 ∙ shown,
-        subst (λ (k : ℕ). AreSegments n (set vs.items k w)) (sym q_is) more.1,
-      )
+      let all = joined_is v w [] is (kept ∙ sym (append-nil v.items)) (let below = mod_below i n some in omega (arith, below)) in
+      (all.0 ∙ append-nil xs, all.1)
 
 -- ---- whole segments, one after the other
 

@@ -117,10 +117,33 @@ impl<T: Copy> Segments<T> {
         ensures appended { OnOk result (self.new ≡ self.old ++ items.now) }
         ensures begun { OnErr result ((count : ℕ) × (self.new ≡ self.old ++ take count items.now)) }
     {
-        for i in 0..items.len() {
-            self.push(items[i])?;
+        let mut done = 0;
+        while done < items.len() {
+            done += self.append_some(&items[done..])?;
         }
         Ok(())
+    }
+
+    // Appends as many of the items, of which there is one, as the last segment has places for, at once, and says how many.
+    //
+    // Error: `Memory`, which leaves the list as it was.
+    fn append_some(&mut self, items: &[T]) -> Result<usize, Memory>
+        requires { 0 < length items.now }
+        ensures some { IfOk result (λ count. (0 < count) × (count ≤ length items.now)) }
+        ensures appended { IfOk result (λ count. self.new ≡ self.old ++ take count items.now) }
+        ensures unchanged { OnErr result (self.new ≡ self.old) }
+    {
+        let (number, within) = self.segment_length.split(self.count);
+        let places = self.segment_length.items() as usize - within;
+        let count = items.len().min(places);
+        if count as u64 > MAX_ITEMS - self.count {
+            return Err(Memory);
+        }
+        open_segment(self.alloc, &mut self.segments, self.segment_length, number)?;
+        let segment = &mut self.segments[number];
+        segment.extend_from_slice(&items[..count])?;
+        self.count += count as u64;
+        Ok(count)
     }
 
     /// Appends the item.
