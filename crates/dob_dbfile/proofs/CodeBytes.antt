@@ -1,7 +1,7 @@
 -- Records as the bytes of codes and of values, whole and in pieces.
 use Rattle.dob_dbfile.proofs.Common.{◌%◌, ◌*◌, ◌++◌, ◌+◌, ◌/◌, ◌<◌, ◌∙◌, ◌∷◌, ◌≡◌, ◌≤◌, List, [], add-one, ap, append-nil, append_assoc, arith, drop}
-use Rattle.dob_dbfile.proofs.Common.{length, length-drop, length-take-le, refl, slice_index, suc, sym, take, take-add, zero, ℕ, take-append-drop}
-use Rattle.dob_dbfile.proofs.Common.{flat_map-append, All-tail, All, little_bytes, little_number, code_of_value, value_at_distance, value_of_code}
+use Rattle.dob_dbfile.proofs.Common.{length, length-drop, length-take-le, refl, slice_index, sym, take, take-add, ℕ, take-append-drop}
+use Rattle.dob_dbfile.proofs.Common.{flat_map-append, All-tail, All, little_bytes, little_number, code_of_value, value_of_code}
 use Rattle.dob_dbfile.proofs.Common.{values_of_codes, IsEntry, Value, code_bytes, records}
 use Rattle.std.proofs.lemmas.List.{get_or-drop}
 use Rattle.dob_distance.specs.declared.value.Value.TheVariants.{Win, Loss, Draw}
@@ -9,12 +9,8 @@ use Rattle.dob_distance.specs.declared.value.Value.TheVariants.{Win, Loss, Draw}
 -- ---- records and the codes that they are
 
 -- a value has its code
-code_of_distance : (plies : ℕ) → code_of_value (value_at_distance plies) ≡ plies + 1
-code_of_distance plies = grind arith
-
 pub code_of_code : (code : ℕ) → code_of_value (value_of_code code) ≡ code
-code_of_code zero = refl
-code_of_code (suc plies) = let e = code_of_distance plies in omega (arith, e)
+code_of_code code = grind arith
 
 -- records of values that stand for codes are those of the codes
 pub records-codes : (codes : List ℕ) → records (values_of_codes codes) ≡ code_bytes codes
