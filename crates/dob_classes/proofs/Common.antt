@@ -39,7 +39,6 @@ pub use Rattle.dob_rank.proofs.Positions.Digits.{HasDigits-digits, HasParts-from
 pub use Rattle.dob_rank.proofs.Positions.Found.{HasDigits-spot, IsPositionOfSet-mirrored, local_in_bases, made_by, made_in_block, run_in_bases}
 pub use Rattle.dob_rank.proofs.Positions.Loops.{HasDigits-drop, HasDigits-length, drop_back, product-positive, product_fits}
 pub use Rattle.dob_rank.proofs.Positions.Numbering.{Before-from_rank, HasBlock-setup_in, block_of-below, on_board-block, rank_of_set-rises, rank_of_set-same}
-pub use Rattle.dob_rank.proofs.ProfileB.FarSpots.{forms_small, none_counted, one_counted}
 pub use Rattle.dob_rank.specs.ClassRows.{marked_place}
 pub use Rattle.dob_rank.specs.Families.{HasClass, HasClasses, HasRank, IsInClass, IsPositionOf, IsRepresentative, RepresentsClass, family_of, is_present}
 unfoldable pub use Rattle.dob_rank.specs.Families.{class_number, class_setup, classes_of, is_marked, rank_of}

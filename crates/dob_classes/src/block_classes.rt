@@ -19,8 +19,8 @@ use crate::spots::count_before;
 use crate::stretch_tables::StretchTable;
 use dob_pieces::{Family, Memory, PieceSet, Profile};
 use dob_rank::block::{self, DIGITS, PerKind};
-use dob_rank::far_places::local_at;
 use dob_rank::placing::Places;
+use dob_rank::run_places::place_of_number;
 use dob_rank::runs::{LIONS, RunDigits, RunKind, Spot, kind_of};
 use std::alloc::Global;
 
@@ -250,7 +250,7 @@ impl BlockClasses {
     {
         match self.family.profile {
             Profile::A => number,
-            Profile::B => local_at(&self.on_board, run % LIONS, number),
+            Profile::B => place_of_number(&self.on_board, run % LIONS, number),
         }
     }
 }

@@ -22,7 +22,6 @@ mod class_numbers;
 mod class_rows;
 mod class_walks;
 mod classes;
-mod far_counts;
 pub mod laws;
 mod place_tables;
 mod representatives;

@@ -1,5 +1,4 @@
-// The positions of a family in a run of its set, numbered among themselves: in profile A by their places, in profile B by how many chicks' forms are
-// allowed before theirs.
+// The positions of a family in a run of its set, numbered among themselves: in profile A by their places, in profile B by how many that it allows stand before.
 ghost use Rattle.std.specs.Prelude.{◌≡◌, ◌<◌, ◌≤◌};
 ghost use Rattle.dob_pieces.specs.declared.profile.Profile.TheVariants.{B};
 ghost use Rattle.dob_pieces.specs.declared.setup.Setup.{Setup};
@@ -10,13 +9,12 @@ ghost use Rattle.dob_rank.specs.Marks.{marks_below};
 ghost use Rattle.dob_rank.specs.Numbers.{product, block_bases, block_of};
 ghost use Rattle.dob_rank.specs.Runs.{runs_in, run_size, run_of, local_of};
 
-use crate::far_counts::count_upto;
 use dob_pieces::{Board, Family, PieceSet, Profile};
-use dob_rank::far_rows::before_choice;
-use dob_rank::ranks::{allowed_forms, place_after};
+use dob_rank::block;
+use dob_rank::chick_forms::forms_in;
+use dob_rank::run_places::{number_of_place, others_ways};
 use dob_rank::runs::{LIONS, Spot};
-use dob_rank::set_ranks::{digits_of, numbers_in, spot_by};
-use dob_rank::{block, radix};
+use dob_rank::set_ranks::spot_by;
 
 /// How many positions of the family a run has before that place, or before its end. Inlined: for rules A it returns `place`.
 #[inline(always)]
@@ -28,13 +26,24 @@ pub(crate) fn count_before(family: Family, block: u64, run: u64, place: u64) -> 
 {
     match family.profile {
         Profile::A => place,
-        Profile::B => {
-            if place == 0 {
-                0
-            } else {
-                count_upto(family.set, block, run, place - 1)
-            }
-        }
+        Profile::B => count_in_b(family.set, block, run, place),
+    }
+}
+
+// The same in profile B, out of the way of what profile A does.
+#[inline(never)]
+fn count_in_b(set: PieceSet, block: u64, run: u64, place: u64) -> u64
+    requires block { block < product (block_bases set) }
+    requires run { run < runs_in set block }
+    requires place { place ≤ run_size set block }
+    ensures { result ≡ marks_below (is_there (family_of set B) block run) place }
+{
+    let on_board = block::numbers_in(set, block);
+    let lions = run % LIONS;
+    if place == block::run_size_in(set, block) {
+        forms_in(on_board[0], lions) * others_ways(&on_board)
+    } else {
+        number_of_place(&on_board, lions, place)
     }
 }
 
@@ -46,28 +55,13 @@ pub(crate) fn spot_in(family: Family, board: &Board) -> (u64, Spot)
     ensures local { (setup : Setup) → IsShown family setup board.now
         → result.1.local ≡ marks_below (is_there family (block_of family.set setup) (run_of family.set setup)) (local_of setup) }
 {
-    match family.profile {
-        Profile::A => spot_by(family.set, board),
-        Profile::B => far_spot(family.set, board),
-    }
-}
-
-// Block and spot of a position in profile B, out of the way of what profile A does.
-#[inline(never)]
-fn far_spot(set: PieceSet, board: &Board) -> (u64, Spot)
-    requires { (setup : Setup) × IsShown (family_of set B) setup board.now }
-    ensures block { (setup : Setup) → IsShown (family_of set B) setup board.now → result.0 ≡ block_of set setup }
-    ensures run { (setup : Setup) → IsShown (family_of set B) setup board.now → result.1.run ≡ run_of set setup }
-    ensures local { (setup : Setup) → IsShown (family_of set B) setup board.now
-        → result.1.local ≡ marks_below (is_there (family_of set B) (block_of set setup) (run_of set setup)) (local_of setup) }
-{
-    let on_board = numbers_in(board);
-    let block = radix::number_of(&block::block_bases_of(set), &on_board);
-    let digits = digits_of(board, &on_board);
-    let run = block::spot_from(set, &on_board, &digits).run;
-    let forms = allowed_forms(board, on_board[0]);
-    let lions = run % LIONS;
-    let chosen = before_choice(on_board[0], lions, digits[5]);
-    let local = place_after(&on_board, &digits, lions, chosen, forms);
-    (block, Spot { run, local })
+    let (block, spot) = spot_by(family.set, board);
+    let local = count_before(family, block, spot.run, spot.local);
+    (
+        block,
+        Spot {
+            run: spot.run,
+            local,
+        },
+    )
 }

@@ -39,12 +39,12 @@ unfoldable pub use Rattle.dob_rank.specs.Numbers.{block_size, nth, rank_of_set, 
 pub use Rattle.dob_rank.specs.Order.{HasCount, IsEither, IsFirstOfTwo, IsPositionOfSet, IsRepresentativeOfSet, Precedes, RepresentativeOf, form, forms}
 pub use Rattle.dob_rank.specs.Order.{pieces_of, squares_from}
 unfoldable pub use Rattle.dob_rank.specs.Order.{Before, key}
-pub use Rattle.dob_rank.specs.Places.{AreChickParts, IsPlaceFor, IsPresentAt, IsPresentIn, IsSpotFor, stands}
+pub use Rattle.dob_rank.specs.Places.{IsPlaceFor, IsPresentAt, IsPresentIn, IsSpotFor}
 pub use Rattle.dob_rank.specs.Placing.{AreChoices, AreFree, first_place, higher_of, lower_of, past, put, second_place}
 pub use Rattle.dob_rank.specs.Runs.{AreFewOnBoard, IsInRun, enemy_square, form_bases, lion_pairs, lions_of, local_bases, local_number, run_bases, run_digits}
 pub use Rattle.dob_rank.specs.Runs.{run_kind, run_number, square_bases}
 unfoldable pub use Rattle.dob_rank.specs.Runs.{local_of, run_of, run_size, run_start, runs_in}
-pub use Rattle.dob_rank.specs.Weights.{allowed_number, are_allowed, choice_weight, chosen, forms_before, forms_in, forms_on, forms_stand, free_weights}
-pub use Rattle.dob_rank.specs.Weights.{lions_before, lions_in, may_have, others_by, others_forms, others_squares, place_after, squares_by, weight, weights_of}
-unfoldable pub use Rattle.dob_rank.specs.Weights.{hand_size, local_in, place_in}
+pub use Rattle.dob_rank.specs.Weights.{are_allowed, choice_weight, forms_before, forms_in, forms_on, forms_stand}
+pub use Rattle.dob_rank.specs.Weights.{lions_before, lions_in, may_have, others_forms, others_squares, weight}
+unfoldable pub use Rattle.dob_rank.specs.Weights.{hand_size}
 pub use Rattle.dob_rank.specs.declared.layers.Layer.TheVariants.{Chicks, Elephants, Empty, EnemyLion, Giraffes, OwnLion}

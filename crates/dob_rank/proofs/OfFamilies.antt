@@ -2,7 +2,7 @@
 pub mod Present  -- a family's positions among the ranks of its set
 pub mod FamilyOrder  -- ranks in a family are below its size, and give its positions
 pub mod RunPresent  -- which places of a run are of the family
-pub mod RunCounts  -- how many of them are before a place
+pub mod PlaceCounts  -- how many positions a run has before each of its places
 pub mod FamilyRuns  -- how many positions of a family a run has, and how many stand before it
-pub mod FamilyRanks  -- the rank of a position in its family, by its digits
+pub mod FamilyRanks  -- a place of a block and its number among the positions of the family
 pub mod ClassBounds  -- how many positions and classes a set has at most

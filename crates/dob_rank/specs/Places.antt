@@ -1,18 +1,12 @@
 -- A place of a run by how many positions of profile B the run has before it.
-use Rattle.std.specs.Prelude.{◌≡◌, ℕ, ◌+◌, ◌*◌, ◌%◌, ◌^◌, ◌<◌, Bool, true, List}
+use Rattle.std.specs.Prelude.{◌≡◌, ℕ, ◌+◌, ◌%◌, ◌<◌, true, List}
 use Rattle.dob_pieces.specs.declared.piece_set.PieceSet.{PieceSet}
 use Rattle.dob_pieces.specs.declared.profile.Family.{Family}
 use Rattle.dob_pieces.specs.declared.profile.Profile.TheVariants.{B}
-use Rattle.dob_rank.specs.Numbers.{product, digits_of, block_bases, start_of, order, choose, settle, free_squares}
+use Rattle.dob_rank.specs.Numbers.{product, digits_of, block_bases, start_of}
 use Rattle.dob_rank.specs.Marks.{marks_below}
 use Rattle.dob_rank.specs.Runs.{runs_in, run_size, run_start, lion_pairs}
 use Rattle.dob_rank.specs.Families.{family_of, is_present}
-use Rattle.dob_rank.specs.Weights.{may_have, are_allowed, lions_in, forms_before, choice_weight}
-use Rattle.dob_rank.specs.declared.layers.Layer.TheVariants.{Chicks}
-
--- chicks of a choice of squares may have the forms that the number says, where those lions stand
-abbrev pub stands : ℕ → ℕ → ℕ → ℕ → Bool
-stands lions chicks c n = are_allowed (may_have B) 4 (order Chicks) n 0 (settle (order Chicks) chicks c (lions_in lions))
 
 -- a position of the family stands at that place of the run, and so many of the run's stand before it
 pub record IsPresentAt (family : Family) (block run number local : ℕ) : Type 0 where
@@ -24,14 +18,6 @@ pub record IsPresentAt (family : Family) (block run number local : ℕ) : Type 0
 abbrev pub IsPlaceFor : List ℕ → ℕ → ℕ → ℕ → Type 0
 IsPlaceFor ob lions number local = (set : PieceSet) (block run : ℕ) → block < product (block_bases set) → ob ≡ digits_of (block_bases set) block
     → run < runs_in set block → run % lion_pairs ≡ lions → IsPresentAt (family_of set B) block run number local
-
--- so many choices of squares and of the chicks' forms stand before that choice of the chicks' squares, that of the others' squares and those forms
-pub record AreChickParts (chicks lions others number choice squares forms : ℕ) : Type 0 where
-  pub choice_below : choice < choose free_squares chicks
-  pub squares_below : squares < others
-  pub forms_below : forms < 4 ^ chicks
-  pub allowed : stands lions chicks choice forms ≡ true
-  pub number_is : forms_before B lions chicks choice * others + squares * choice_weight B lions chicks choice + marks_below (stands lions chicks choice) forms ≡ number
 
 -- a spot before which each block of those numbers on the board has so many positions of profile B
 pub record IsPresentIn (family : Family) (block number run local : ℕ) : Type 0 where

@@ -13,21 +13,21 @@
 // - The positions of a family in one run are numbered among themselves (`place_of_number`), so lists of stretches work for any marks. In profile A the
 //   numbers are the places.
 // - A rank is found from a `Board`, by the sets of its squares; a position by places, each piece's among the squares that are left.
-// - Tables of profile B go by how many of the squares that two lions leave are on row 1 and on row 4: five shapes.
+// - What stands before a choice of squares by rules B is counted by the bits of a set (`src/chick_forms.rt`), with no table.
 // - What stands on a square is a `Layer`, an enum whose order is the key's; definitions go over lists of the layers' numbers (`order`).
 // - No set is too large: a `PieceSet` has at most two of each kind by its type. The bound of 2^31 positions is read off the table of the blocks' starts.
 #![tactic(auto)]
 
 pub mod block;
+pub mod chick_forms;
 pub mod even_ways;
-pub mod far_places;
-pub mod far_rows;
 pub mod forms;
 pub mod layers;
 mod masks;
 pub mod placing;
 pub mod radix;
 pub mod ranks;
+pub mod run_places;
 pub mod runs;
 pub mod set_ranks;
 mod starts;

@@ -13,21 +13,9 @@ ghost use Rattle.dob_rank.specs.Runs.{runs_in, run_size, run_bases, square_bases
 use crate::block::{self, DIGITS, PerKind};
 use crate::layers::Layer;
 use crate::runs::Spot;
-use crate::starts::{block_start, find_block};
+use crate::starts::find_block;
 use crate::{masks, placing, radix};
 use dob_pieces::{Board, Family, Hand, HandKind, Hands, PieceSet, Position, Profile, Setup};
-
-/// How many positions of its piece set stand before the position.
-pub(crate) fn rank_in_set(position: &Position) -> u64
-    ensures { (set : PieceSet) → IsPositionOfSet set position.now.setup → result ≡ rank_of_set set position.now.setup }
-{
-    let board = Board::of(&position.setup);
-    let on_board = numbers_in(&board);
-    let set = piece_set_of(position, &on_board);
-    let (block, spot) = spot_from(set, &on_board, &digits_of(&board, &on_board));
-    let profile = Profile::A;
-    block_start(Family { set, profile }, block) + block::place_of(&on_board, spot)
-}
 
 /// The position of the set that has that rank, which is below the set's size.
 pub(crate) fn unrank_in_set(set: PieceSet, rank: u64) -> Position

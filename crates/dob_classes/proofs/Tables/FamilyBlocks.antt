@@ -1,5 +1,5 @@
 -- The blocks of a family: what a block of the list says of the family's positions and classes.
-use Rattle.dob_classes.proofs.Common.{◌%◌, ◌*◌, ◌++◌, ◌+◌, ◌<◌, ◌^◌, ◌∙◌, ◌∷◌, ◌≡◌, ◌≤◌, List, [], ap, arith, length, refl, slice_index, slice_index_or}
+use Rattle.dob_classes.proofs.Common.{◌%◌, ◌*◌, ◌++◌, ◌+◌, ◌-◌, ◌<◌, ◌^◌, ◌∙◌, ◌∷◌, ◌≡◌, ◌≤◌, List, [], ap, arith, length, refl, slice_index, slice_index_or}
 use Rattle.dob_classes.proofs.Common.{subst, sym, true, ℕ, length_push, Family, Profile, A, B, Setup, AreFewOnBoard-digits, marks_from, run_start_next}
 use Rattle.dob_classes.proofs.Common.{start_small, spot_there, marks_below-le, marks_below_none, classes_of-below, HasClasses-classes_of, represents, there}
 use Rattle.dob_classes.proofs.Common.{HasDigits-numbers, sum_below_more, local_in_bases, made_in_block, run_in_bases, HasClasses, IsPositionOf, family_of}
@@ -12,10 +12,10 @@ use Rattle.dob_rank.specs.Places.{IsPresentAt, IsPlaceFor}
 use Rattle.dob_rank.specs.Weights.{forms_in, others_squares, others_forms}
 use Rattle.dob_rank.proofs.Positions.Numbering.{HasBlock, rank_of_set-block}
 use Rattle.dob_rank.proofs.InRuns.RunPlaces.{run_start-is}
-use Rattle.dob_rank.proofs.OfFamilies.FamilyRuns.{ob_of, run_present, lions_alike}
+use Rattle.dob_rank.proofs.OfFamilies.FamilyRuns.{ob_of, lions_alike}
 use Rattle.dob_classes.proofs.OfFamilies.FamilyNumbers.{IsAtClass, at_class}
 use Rattle.dob_classes.proofs.MarksOfRuns.FamilyMarks.{mark_of_number, number_of_position}
-use Rattle.dob_classes.proofs.Counting.FarCounts.{all_there, same_left}
+use Rattle.dob_classes.proofs.Counting.RunNumbers.{all_there, run_size_in-parts, same_left}
 use Rattle.dob_classes.proofs.Tables.Pushed.{each_pushed}
 
 -- ---- the place of a number
@@ -37,32 +37,22 @@ place_of_own family block run number at a = record {
   number_is = all_there family block run number a;
 }
 
--- in profile B a run has so many positions
-run_size_in-far : (family : Family) (block run : ℕ) → block < product (block_bases family.set) → run < runs_in family.set block
-    → run_size_in family block run
-    ≡ forms_in family.profile (slice_index (ob_of family block) 0) run * (others_squares (ob_of family block) * others_forms (ob_of family block))
-run_size_in-far family block run within below =
-    same_left (marks_below (is_present family) (run_start family.set block run)) (run_size_in family block run)
-    (forms_in family.profile (slice_index (ob_of family block) 0) run * (others_squares (ob_of family block) * others_forms (ob_of family block)))
-    (marks_from (is_present family) (run_start family.set block run) (run_size family.set block)
-    ∙ ap (marks_below (is_present family)) (sym (run_start_next family.set block run))
-    ∙ sym (run_present family block run within below))
-
+-- in profile B one of so many
 pub number_fits : (family : Family) (block run number : ℕ) (ob : List ℕ) → IsInRunOf family block run number → family.profile ≡ B
     → ob ≡ digits_of (block_bases family.set) block
     → number < forms_in B (slice_index ob 0) (run % lion_pairs) * (others_squares ob * others_forms ob)
 number_fits family block run number ob at b ob_is =
     subst (λ n. number < n)
-    (run_size_in-far family block run at.block_below at.run_below
+    (run_size_in-parts family block run at.block_below at.run_below
     ∙ ap (λ (p : Profile). forms_in p (slice_index (ob_of family block) 0) run * (others_squares (ob_of family block) * others_forms (ob_of family block))) b
     ∙ ap (λ n. n * (others_squares (ob_of family block) * others_forms (ob_of family block)))
     (lions_alike B (slice_index (ob_of family block) 0) run (run % lion_pairs) (omega arith))
     ∙ ap (λ (xs : List ℕ). forms_in B (slice_index xs 0) (run % lion_pairs) * (others_squares xs * others_forms xs)) (sym ob_is))
     at.number_below
 
-pub place_of_far : (family : Family) (block run number place : ℕ) (ob : List ℕ) → IsInRunOf family block run number → family.profile ≡ B
+pub place_of_b : (family : Family) (block run number place : ℕ) (ob : List ℕ) → IsInRunOf family block run number → family.profile ≡ B
     → ob ≡ digits_of (block_bases family.set) block → IsPlaceFor ob (run % lion_pairs) number place → IsNumbered family block run number place
-place_of_far family block run number place ob at b ob_is found =
+place_of_b family block run number place ob at b ob_is found =
     let here : IsPresentAt family block run number place
     = subst (λ (p : Profile). IsPresentAt (family_of family.set p) block run number place) (sym b)
     (found family.set block run at.block_below ob_is at.run_below refl) in

@@ -2,7 +2,7 @@
 -- row change them. So it is counted how many placements of a kind, squares and forms, are their own image.
 use Rattle.dob_rank.proofs.Common.{◌%◌, ◌&&◌, ◌*◌, ◌+◌, ◌-◌, ◌/◌, ◌<◌, ◌^◌, ◌∙◌, ◌∷◌, ◌≡◌, ◌≤◌, ◌⊎◌, Bool, List, None, [], ap, arith, cond, eqb, false, inl}
 use Rattle.dob_rank.proofs.Common.{inr, length, map, refl, slice_index_or, subst, suc, sym, true, zero, ℕ, and_parts, cases_Bool, cases_eq, eq-eqb, eqb-true}
-use Rattle.dob_rank.proofs.Common.{le-ltb, lt-ltb, ne_eqb, not, sum_same, one_if, all_below, all_below-at, Cell, board_by, base_of, board_of, cell_of, choice, choose}
+use Rattle.dob_rank.proofs.Common.{le-ltb, lt-ltb, ne_eqb, not, sum_same, one_if, all_below, Cell, board_by, base_of, board_of, cell_of, choice, choose}
 use Rattle.dob_rank.proofs.Common.{count, forms_number, layer, settle, sum_below, nat_tests, length-map}
 use Rattle.std.proofs.Common.{rules}
 use Rattle.dob_pieces.specs.Squares.{mirrored_square}

@@ -53,3 +53,13 @@ marks_below-upto mark m n upto =
     let up = marks_below-up mark m (n - m) in
     let end : marks_below mark (m + (n - m)) ≡ marks_below mark n = ap (marks_below mark) (let e : m + (n - m) ≡ n = omega (arith, upto) in e) in
     omega (arith, up, end)
+
+-- ---- what searches keep
+marks_next : (mark : ℕ → Bool) (n : ℕ) → marks_below mark (n + 1) ≡ marks_below mark n + one_if (mark n)
+marks_next mark n = ap (marks_below mark) (let e : n + 1 ≡ suc n = omega arith in e) ∙ marks_below_more mark n
+
+pub one_counted : (mark : ℕ → Bool) (n before : ℕ) → before ≡ marks_below mark n → mark n ≡ true → before + 1 ≡ marks_below mark (n + 1)
+one_counted mark n before is on = grind (arith, marks_next)
+
+pub none_counted : (mark : ℕ → Bool) (n before : ℕ) → before ≡ marks_below mark n → mark n ≡ false → before ≡ marks_below mark (n + 1)
+none_counted mark n before is off = grind (arith, marks_next)

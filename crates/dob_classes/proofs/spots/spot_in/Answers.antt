@@ -1,43 +1,34 @@
--- In profile A a position's number in its run is its place there.
-use Rattle.dob_classes.proofs.Common.{◌∙◌, ◌≡◌, ap, subst, sym, B, IsAllowed, Family, Profile, Setup, family_of, marks_below, block_of, run_of, local_of}
-use Rattle.dob_classes.proofs.Common.{Board, IsShown, IsShownOfSet, is_there}
-use Rattle.dob_classes.proofs.Counting.FarCounts.{all_there}
+-- The position's place in its run gives its number there.
+use Rattle.dob_classes.proofs.Common.{◌∙◌, ◌≡◌, ◌≤◌, ◌<◌, arith, refl, Family, Setup, ℕ, marks_below, Board, IsShown, IsShownOfSet, is_there, spot_there}
 use Rattle.dob_classes.proofs.spots.spot_in.Goals as goal
 
 of_set : (family : Family) (setup : Setup) (board : Board) → IsShown family setup board → IsShownOfSet family.set setup board
 of_set family setup board shown = record { position = shown.position.of_set; squares = shown.squares }
 
-in_b : (family : Family) (setup : Setup) (board : Board) → family.profile ≡ B → IsShown family setup board → IsShown (family_of family.set B) setup board
-in_b family setup board is shown = record {
-  position = record { of_set = shown.position.of_set; allowed = subst (λ (p : Profile). IsAllowed p setup) is shown.position.allowed };
-  squares = shown.squares;
-}
+same_count : (family : Family) (b block r run l local : ℕ) → b ≡ block → r ≡ run → l ≡ local
+    → marks_below (is_there family b r) l ≡ marks_below (is_there family block run) local
+same_count family b block r run l local e f g = cc
 
-pub spot_by-requires : goal.spot_by-requires
-spot_by-requires c = (c.requires.0, of_set c.args.family c.requires.0 c.args.board.now c.requires.1)
+upto : (a b : ℕ) → a < b → a ≤ b
+upto a b h = omega (arith, h)
 
-pub returns-in-A : goal.returns-in-A
-returns-in-A c =
-    let of = of_set c.args.family in
-    let board = c.args.board.now in
-    let set = c.args.family.set in
+pub spot_by-block-requires : goal.spot_by-block-requires
+spot_by-block-requires c = (c.requires.0, of_set c.args.family c.requires.0 c.args.board.now c.requires.1)
+
+pub count_before-local-requires : goal.count_before-local-requires
+count_before-local-requires c =
+    let s = c.requires.0 in
+    let shown = of_set c.args.family s c.args.board.now c.requires.1 in
+    let there = (spot_there c.args.family.set s c.args.family.set _ _ _ shown.position refl (c.spot_by-block.ensures.block s shown)
+    (c.spot_by-block.ensures.run s shown) (c.spot_by-block.ensures.local s shown)).there in
+    record { block = there.block_below; run = there.run_below; place = upto _ _ there.local_below }
+
+pub returns : goal.returns
+returns c =
+    let of = λ (s : Setup) (shown : IsShown c.args.family s c.args.board.now). of_set c.args.family s c.args.board.now shown in
     record {
-      block = λ setup shown. c.spot_by.ensures.block setup (of setup board shown);
-      run = λ setup shown. c.spot_by.ensures.run setup (of setup board shown);
-      local = λ setup shown. c.spot_by.ensures.local setup (of setup board shown)
-          ∙ sym (all_there c.args.family (block_of set setup) (run_of set setup) (local_of setup) c.in-A.is);
-    }
-
-pub far_spot-requires : goal.far_spot-requires
-far_spot-requires c = (c.requires.0, in_b c.args.family c.requires.0 c.args.board.now c.in-B.is c.requires.1)
-
-pub returns-in-B : goal.returns-in-B
-returns-in-B c =
-    let b = λ (setup : Setup) (shown : IsShown c.args.family setup c.args.board.now). in_b c.args.family setup c.args.board.now c.in-B.is shown in
-    let set = c.args.family.set in
-    record {
-      block = λ setup shown. c.far_spot.ensures.block setup (b setup shown);
-      run = λ setup shown. c.far_spot.ensures.run setup (b setup shown);
-      local = λ setup shown. c.far_spot.ensures.local setup (b setup shown)
-          ∙ ap (λ (p : Profile). marks_below (is_there (family_of set p) (block_of set setup) (run_of set setup)) (local_of setup)) (sym c.in-B.is);
+      block = λ s shown. c.spot_by-block.ensures.block s (of s shown);
+      run = λ s shown. c.spot_by-block.ensures.run s (of s shown);
+      local = λ s shown. c.count_before-local.ensures ∙ same_count c.args.family _ _ _ _ _ _ (c.spot_by-block.ensures.block s (of s shown))
+          (c.spot_by-block.ensures.run s (of s shown)) (c.spot_by-block.ensures.local s (of s shown));
     }

@@ -3,7 +3,7 @@ use Rattle.dob_rank.proofs.Common.{◌<◌, ◌^◌, ◌∙◌, ◌≤◌, arith
 use Rattle.dob_rank.proofs.Positions.BlockStarts.{place_within, start_few}
 use Rattle.dob_rank.proofs.Marked.Words.{marks_below-le}
 use Rattle.dob_rank.proofs.OfFamilies.Present.{all_present}
-use Rattle.dob_rank.proofs.ProfileB.FarTables.{start_in_family}
+use Rattle.dob_rank.proofs.ProfileB.FamilyStarts.{start_in_family}
 use Rattle.dob_rank.proofs.starts.block_start.Goals as goal
 
 pub returns-clause-value : goal.returns-clause-value
