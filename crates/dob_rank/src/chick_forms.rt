@@ -7,7 +7,7 @@ ghost use Rattle.dob_rank.specs.Marks.{marks_below};
 ghost use Rattle.dob_rank.specs.Weights.{may_have, choice_weight, forms_before, forms_in, forms_stand, forms_upto, hand_size, left_square, lions_before};
 ghost use Rattle.dob_rank.specs.Weights.{pairs_before, stands};
 
-use crate::block::{choose, power};
+use crate::block::power;
 use crate::placing::{among, past, places_of};
 use crate::runs::{ENEMY_SQUARES, FREE_SQUARES, LIONS};
 
@@ -182,17 +182,55 @@ pub fn choice_at(chicks: u64, lions: u64, number: u64) -> u64
     ensures low { forms_before B lions chicks result ≤ number }
     ensures high { number < forms_before B lions chicks (result + 1) }
 {
-    let mut low = 0;
-    let mut high = choose(FREE_SQUARES, chicks);
-    while 1 < high - low {
-        let middle = low + (high - low) / 2;
-        if before_choice(chicks, lions, middle) <= number {
-            low = middle;
-        } else {
-            high = middle;
-        }
+    match chicks {
+        0 => 0,
+        1 => square_at(lions, number),
+        _ => pair_at(lions, number),
     }
-    low
+}
+
+// The number of the square in whose forms, of one chick, the one of that number is.
+fn square_at(lions: u64, number: u64) -> u64
+    requires lions { lions < LIONS }
+    requires number { number < forms_upto lions FREE_SQUARES }
+    ensures square { result < FREE_SQUARES }
+    ensures low { forms_upto lions result ≤ number }
+    ensures high { number < forms_upto lions (result + 1) }
+{
+    let mut seen = 0;
+    for square in 0..FREE_SQUARES {
+        let next = seen + forms_below(left_square(lions, square), 4);
+        if number < next {
+            return square;
+        }
+        seen = next;
+    }
+    0
+}
+
+// The same of two squares: from first square to first square while no more forms stand before, then the second one.
+fn pair_at(lions: u64, number: u64) -> u64
+    requires lions { lions < LIONS }
+    requires number { number < pairs_before lions FREE_SQUARES }
+    ensures choice { result < choose FREE_SQUARES 2 }
+    ensures low { forms_before B lions 2 result ≤ number }
+    ensures high { number < forms_before B lions 2 (result + 1) }
+{
+    let all = forms_upto(lions, FREE_SQUARES);
+    let mut seen = 0;
+    let mut before = 0;
+    for first in 0..FREE_SQUARES {
+        let own = forms_below(left_square(lions, first), 4);
+        let upto = seen + own;
+        let next = before + own * (all - upto);
+        if number < next {
+            let second = square_at(lions, upto + (number - before) / own);
+            return first * (2 * FREE_SQUARES - 1 - first) / 2 + second - first - 1;
+        }
+        seen = upto;
+        before = next;
+    }
+    0
 }
 
 // Whether a chick or hen of that form may stand on the square.

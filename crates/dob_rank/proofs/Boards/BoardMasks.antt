@@ -1,11 +1,11 @@
 -- What the masks of a position say of its digits and its piece set.
-use Rattle.dob_rank.proofs.Common.{◌+◌, ◌-◌, ◌∙◌, ◌∷◌, ◌≡◌, ◌≤◌, List, [], arith, length, map, slice_index, sym, ℕ, length-map, Cell, IsLegal, total, PieceSet, Setup, IsPositionOfSet, digits}
+use Rattle.dob_rank.proofs.Common.{◌+◌, ◌-◌, ◌∙◌, ◌∷◌, ◌≡◌, ◌≤◌, List, [], arith, length, map, slice_index, ℕ, length-map, Cell, IsLegal, total, PieceSet, Setup, IsPositionOfSet, digits}
 use Rattle.dob_rank.proofs.Common.{all_squares, from_mask, count, layer, on_board, order, Chicks, Elephants, Empty, EnemyLion, Giraffes, OwnLion}
 use Rattle.dob_pieces.specs.declared.kind.HandKind.TheVariants as hand
 use Rattle.dob_pieces.specs.Boards.{IsBoardOf}
 use Rattle.dob_pieces.specs.declared.board.Board.{Board}
-use Rattle.dob_rank.specs.BoardDigits.{ArePartsOf, AreNumbersOf, HasOfLayer}
-use Rattle.dob_rank.proofs.Boards.BoardLayers.{AreMasks, masks_are}
+use Rattle.dob_rank.specs.BoardDigits.{ArePartsOf, AreNumbersOf}
+use Rattle.dob_rank.proofs.Boards.BoardLayers.{AreMasks}
 use Rattle.dob_rank.proofs.Positions.Digits.{HasParts-from_position}
 use Rattle.dob_rank.proofs.Boards.LayerMasks.{later_are}
 use Rattle.dob_rank.proofs.Positions.Sets.{set_of, IsPositionOfSet-set_of, few_in_layer}
@@ -64,16 +64,6 @@ module _ (board : Board) (numbers : List ℕ) (counts : (s : Setup) → IsBoardO
     numbers_are = counts setup squares position.legal.squares;
     digits_are = found setup (parts_shown position.legal squares);
   }
-
--- and of its chicks
-pub chicks_shown : (board : Board) (numbers : List ℕ) (setup : Setup) → ArePartsOf board numbers setup
-    → HasOfLayer Chicks board.chicks (slice_index numbers 0) setup board
-chicks_shown board numbers setup parts = record {
-  long = parts.legal.squares;
-  squares = parts.squares;
-  mask_is = (masks_are setup board parts.legal.squares parts.squares).chicks_are;
-  pieces_are = sym (numbers_are setup numbers parts.legal parts.numbers_are).chicks_are;
-}
 
 pub small_total : (n total : ℕ) → n ≡ total → total ≤ 2 → n ≤ 2
 small_total n total e h = omega arith

@@ -71,9 +71,6 @@ hand_bases set ob = (set.chicks - slice_index ob 0 + 1) ∷ (set.elephants - sli
 in_hand : (c i : ℕ) → c ≤ 2 → c - i + 1 ≤ 3
 in_hand c i h = omega arith
 
-some_in_hand : (c i : ℕ) → 0 < c - i + 1
-some_in_hand c i = omega arith
-
 less_than_ten : (i j : ℕ) → (free_squares - i ≤ free_squares) × (free_squares - i - j ≤ free_squares)
 less_than_ten i j = ((omega arith), (omega arith))
 

@@ -3,10 +3,10 @@ use Rattle.dob_rank.proofs.Common.{◌*◌, ◌+◌, ◌<◌, ◌^◌, ◌∙◌
 use Rattle.dob_rank.proofs.Common.{bases_by, block_bases, block_of, block_size, digits, digits_of, number_of, on_board, product, rank_of_set, setup_by}
 use Rattle.dob_rank.proofs.Common.{setup_in, sum_below, IsPositionOfSet, local_bases, local_number, local_of, run_bases, run_number, run_of, run_size, runs_in}
 use Rattle.dob_pieces.proofs.Boards.{total-mirrored, IsLegal-mirrored}
-use Rattle.dob_rank.proofs.Arithmetic.MixedRadix.{HasDigits-digits_of, digits_of-number_of, number_of-digits_of, number_of-below, number_of-append, parts-below}
+use Rattle.dob_rank.proofs.Arithmetic.MixedRadix.{HasDigits-digits_of, digits_of-number_of, number_of-digits_of, number_of-below, parts-below}
 use Rattle.dob_rank.proofs.Positions.Digits.{HasParts-from_position, HasDigits-on_board, HasDigits-digits}
-use Rattle.dob_rank.proofs.Positions.Numbering.{HasBlock, place_of, HasBlock-setup_in, block_of-below, place_of-below, rank_of_set-place}
-use Rattle.dob_rank.proofs.Positions.Blocks.{block_size-small, run_bases-few, block_size-product}
+use Rattle.dob_rank.proofs.Positions.Numbering.{HasBlock, place_of, HasBlock-setup_in, block_of-below, rank_of_set-place}
+use Rattle.dob_rank.proofs.Positions.Blocks.{run_bases-few, block_size-product}
 
 pub HasDigits-same : (bs cs ds es : List ℕ) → bs ≡ cs → ds ≡ es → HasDigits cs es → HasDigits bs ds
 HasDigits-same bs cs ds es p q h = subst (λ (xs : List ℕ). HasDigits xs ds) (sym p) (subst (HasDigits cs) (sym q) h)
@@ -53,19 +53,8 @@ spot_small set s nums run local p e r l =
     let h = HasDigits-digits set s (HasParts-from_position set s p) in
     (omega (arith, run_few set s p, r), rw (e, l) (number_of-below (local_bases (on_board s)) (drop 5 (digits s)) h.1.1.1.1.1))
 
--- the place that the code makes of a spot
-pub place_is_of : (set : PieceSet) (s : Setup) (nums : List ℕ) (run local place : ℕ) → nums ≡ on_board s → run ≡ run_of set s → local ≡ local_of s →
-    place ≡ run * product (local_bases nums) + local → place ≡ place_of set s
-unfolding run_of local_of
-place_is_of set s nums run local place e r l is =
-    rw (is, e, r, l) (sym (number_of-append (run_bases set (on_board s)) (local_bases (on_board s)) (take 5 (digits s)) (drop 5 (digits s)) refl))
-
 pub block_upto : (set : PieceSet) (s : Setup) (block : ℕ) → IsPositionOfSet set s → block ≡ block_of set s → block ≤ product (block_bases set)
 block_upto set s block p is = omega (arith, is, block_of-below set s p)
-
-pub rank_small : (set : PieceSet) (s : Setup) (start place : ℕ) → IsPositionOfSet set s → start < 2 ^ 31 → place ≡ place_of set s →
-    start + place < 2 ^ 64
-rank_small set s start place p h is = omega (arith, h, is, place_of-below set s p, block_size-small set (block_of set s) (block_of-below set s p))
 
 pub ranked : (set : PieceSet) (s : Setup) (block place start : ℕ) → block ≡ block_of set s → place ≡ place_of set s →
     start ≡ sum_below (block_size set) block → start + place ≡ rank_of_set set s

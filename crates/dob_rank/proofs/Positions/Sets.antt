@@ -1,6 +1,6 @@
 -- A position and its piece set.
 use Rattle.dob_rank.proofs.Common.{◌<◌, ◌∙◌, ◌≡◌, ◌≤◌, ap, arith, map, refl, subst, suc, sym, ℕ, IsLegal, total, HandKind, PieceSet, Setup, count, layer, order}
-use Rattle.dob_rank.proofs.Common.{rank_of_set, IsPositionOfSet, pieces_of, Empty}
+use Rattle.dob_rank.proofs.Common.{IsPositionOfSet, pieces_of, Empty}
 use Rattle.std.proofs.Math.Bridge.{le_prop}
 use Rattle.dob_pieces.specs.declared.kind.HandKind.TheVariants as hand
 use Rattle.dob_rank.proofs.Positions.Digits.{HasParts, HasParts-from_position}
@@ -74,7 +74,3 @@ pub set_of_position : (p q : PieceSet) (s : Setup) → IsPositionOfSet p s → I
 set_of_position p q s hp hq =
     same_numbers p q (sym (hp.pieces hand.Chick) ∙ hq.pieces hand.Chick) (sym (hp.pieces hand.Elephant) ∙ hq.pieces hand.Elephant)
     (sym (hp.pieces hand.Giraffe) ∙ hq.pieces hand.Giraffe)
-
--- and a rank depends on the position alone
-pub rank_of_set-sets : (p q : PieceSet) (s : Setup) → IsPositionOfSet p s → IsPositionOfSet q s → rank_of_set p s ≡ rank_of_set q s
-rank_of_set-sets p q s hp hq = ap (λ (set : PieceSet). rank_of_set set s) (set_of_position p q s hp hq)

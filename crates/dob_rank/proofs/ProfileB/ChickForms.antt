@@ -8,12 +8,14 @@ use Rattle.dob_rank.proofs.Common.{true, zero, ℕ, div-mul-add, mod-eq_of_lt, m
 use Rattle.dob_rank.proofs.Common.{B, choose, free_squares, marks_below, one_if, sum_below, choice_weight, forms_before, forms_in, forms_on, forms_stand, may_have}
 use Rattle.dob_rank.proofs.Common.{cases_eq, first_place, second_place, lower_of, higher_of, past, enemy_squares, lion_pairs, hand_size}
 use Rattle.dob_rank.specs.Weights.{forms_left, forms_upto, left_square, pairs_before}
+use Rattle.dob_rank.proofs.Common.{cases_lt, div-add-mod', mod_below, mul-le-mul}
+use Rattle.dob_rank.proofs.Positions.Blocks.{sum_below_more}
 use Rattle.dob_rank.proofs.Marked.Words.{marks_below_more, marks_below_none}
 use Rattle.dob_rank.proofs.InRuns.RunMarks.{marks_agree}
 use Rattle.dob_rank.proofs.ProfileB.Weights.{one_if-and}
 use Rattle.dob_rank.proofs.OfFamilies.PlaceCounts.{forms_of_choice}
 use Rattle.dob_rank.proofs.ProfileB.FormSquares.{chick_squares_are}
-use Rattle.dob_rank.proofs.ProfileB.PairSums.{closed, pair_rises, pair_sum, pair_total, seen_upto}
+use Rattle.dob_rank.proofs.ProfileB.PairSums.{closed, pair_at, pair_number, pair_rises, pair_sum, pair_total, seen_upto}
 
 -- ---- on one square
 
@@ -269,3 +271,114 @@ before_pair_is lions number first second seen own upto before low below first_is
   where
     sums : (a b c d e f g h : ℕ) → a ≡ b → c ≡ d → e ≡ f → g ≡ h → a + c * (e - g) ≡ b + d * (f - h)
     sums a b c d e f g h i j k l = cc
+
+-- ---- the pair in whose forms a number is
+low_part : (before own number vj s q m : ℕ) → q * own + m ≡ number - before → before ≤ number → vj ≤ s + q → before + own * (vj - s) ≤ number
+low_part before own number vj s q m e h k =
+    let most : own * (vj - s) ≤ own * q = mul-le-mul (let same : own ≤ own = omega arith in same) (let few : vj - s ≤ q = omega (arith, k) in few) in
+    omega (arith, e, h, most, mul_comm own q)
+
+high_part : (before own number vj w s q m : ℕ) → q * own + m ≡ number - before → m < own → s + q < vj + w → s ≤ vj
+    → number < before + own * (vj - s) + own * w
+high_part before own number vj w s q m e h k rises =
+    let most : own * (q + 1) ≤ own * (vj - s + w) = mul-le-mul (let same : own ≤ own = omega arith in same) (let few : q + 1 ≤ vj - s + w = omega (arith, k, rises)
+    in few) in
+    omega (arith, e, h, most, parts own q, sum own (vj - s) w)
+  where
+    parts : (a b : ℕ) → a * (b + 1) ≡ b * a + a
+    parts a b = grind arith
+
+    sum : (a b c : ℕ) → a * (b + c) ≡ a * b + a * c
+    sum a b c = grind arith
+
+some_own : (number before own t : ℕ) → before ≤ number → number < before + own * t → 0 < own
+some_own number before zero t h k = absurd (omega (arith, h, k))
+some_own number before (suc n) t h k = omega arith
+
+pub record IsInPair (lions number c : ℕ) : Type 0 where
+  pub low : forms_before B lions 2 c ≤ number
+  pub high : number < forms_before B lions 2 (c + 1)
+
+pub pair_found : (lions number first second seen before all own : ℕ) → lions < lion_pairs → first < 10 → second < 10
+    → number < before + own * (all - (seen + own)) → before ≤ number → seen ≡ forms_upto lions first → before ≡ pairs_before lions first
+    → own ≡ forms_left lions first → forms_upto lions second ≤ seen + own + (number - before) / own
+    → seen + own + (number - before) / own < forms_upto lions (second + 1) → IsInPair lions number (pair_number first second)
+pair_found lions number first second seen before all own few on within next low seen_is before_is own_is at_least less =
+    let some = some_own number before own (all - (seen + own)) low next in
+    let s : seen + own ≡ forms_upto lions (suc first) = sum_is seen own (forms_upto lions first) (forms_left lions first) seen_is own_is in
+    let rising = in_order (cases_lt first second) s in
+    let at = pair_at first second rising within in
+    let parts = div-add-mod' (number - before) own in
+    let upto = seen_upto (forms_left lions) (suc first) second rising in
+    let value = before_two lions (pair_number first second) few at.below ∙ by_squares at.first at.second in
+    let weight = weight_of_two lions (pair_number first second) few at.below ∙ product_is at.first at.second in
+    let q = (number - before) / own in
+    record {
+      low = rw value (low_part before own number (forms_upto lions second) (seen + own) q ((number - before) % own) parts low at_least);
+      high = subst (λ (n : ℕ). number < n) (sym (sum_below_more (choice_weight B lions 2) (pair_number first second) ∙ ap (λ (n : ℕ). n + choice_weight B lions 2
+          (pair_number first second)) value ∙ ap (λ (n : ℕ). before + own * (forms_upto lions second - (seen + own)) + n) weight))
+          (high_part before own number (forms_upto lions second) (forms_left lions second) (seen + own) q ((number - before) % own) parts
+          (mod_below (number - before) own some) (next_is less) (upto_is s upto));
+    }
+  where
+    sum_is : (a b c d : ℕ) → a ≡ c → b ≡ d → a + b ≡ c + d
+    sum_is a b c d e f = cc
+
+    upto_is : seen + own ≡ forms_upto lions (suc first) → forms_upto lions (suc first) ≤ forms_upto lions second → seen + own ≤ forms_upto lions second
+    upto_is e h = subst (λ (n : ℕ). n ≤ forms_upto lions second) (sym e) h
+
+    next_is : seen + own + (number - before) / own < forms_upto lions (second + 1)
+        → seen + own + (number - before) / own < forms_upto lions second + forms_left lions second
+    next_is h = subst (λ (n : ℕ). seen + own + (number - before) / own < n) (sum_below_more (forms_left lions) second) h
+
+    clash : (a b c d : ℕ) → a + b < c → c ≤ d → a ≡ d → ⊥
+    clash a b c d h k e = omega (arith, h, k, e)
+
+    in_order : (first < second) ⊎ (second ≤ first) → seen + own ≡ forms_upto lions (suc first) → suc first ≤ second
+    in_order (inl h) s = h
+    in_order (inr h) s = absurd (clash (seen + own) ((number - before) / own) (forms_upto lions (second + 1)) (forms_upto lions (suc first)) less
+        (seen_upto (forms_left lions) (second + 1) (suc first) (let e : second + 1 ≤ suc first = omega (arith, h) in e)) s)
+
+    squares : (i j : ℕ) → i ≡ first → j ≡ second → pairs_before lions i + forms_left lions i * (forms_upto lions j - forms_upto lions (suc i))
+        ≡ before + own * (forms_upto lions second - (seen + own))
+    squares i j e f = ap (λ (n : ℕ). pairs_before lions n + forms_left lions n * (forms_upto lions j - forms_upto lions (suc n))) e
+        ∙ ap (λ (n : ℕ). pairs_before lions first + forms_left lions first * (forms_upto lions n - forms_upto lions (suc first))) f
+        ∙ ap (λ (n : ℕ). n + forms_left lions first * (forms_upto lions second - forms_upto lions (suc first))) (sym before_is)
+        ∙ ap (λ (n : ℕ). before + n * (forms_upto lions second - forms_upto lions (suc first))) (sym own_is)
+        ∙ ap (λ (n : ℕ). before + own * (forms_upto lions second - n)) (sym (sum_is seen own (forms_upto lions first) (forms_left lions first) seen_is own_is))
+
+    by_squares : lower_of 10 (pair_number first second) ≡ first → higher_of 10 (pair_number first second) ≡ second
+        → pairs_before lions (lower_of 10 (pair_number first second)) + forms_left lions (lower_of 10 (pair_number first second))
+        * (forms_upto lions (higher_of 10 (pair_number first second)) - forms_upto lions (suc (lower_of 10 (pair_number first second))))
+        ≡ before + own * (forms_upto lions second - (seen + own))
+    by_squares e f = squares (lower_of 10 (pair_number first second)) (higher_of 10 (pair_number first second)) e f
+
+    product_is : lower_of 10 (pair_number first second) ≡ first → higher_of 10 (pair_number first second) ≡ second
+        → forms_left lions (lower_of 10 (pair_number first second)) * forms_left lions (higher_of 10 (pair_number first second)) ≡ own * forms_left lions second
+    product_is e f = ap (λ (n : ℕ). forms_left lions n * forms_left lions (higher_of 10 (pair_number first second))) e
+        ∙ ap (λ (n : ℕ). forms_left lions first * forms_left lions n) f ∙ ap (λ (n : ℕ). n * forms_left lions second) (sym own_is)
+
+-- one more first square
+pub next_first : (lions first before own all upto : ℕ) → before ≡ pairs_before lions first → own ≡ forms_left lions first → all ≡ forms_upto lions free_squares
+    → upto ≡ forms_upto lions (first + 1) → before + own * (all - upto) ≡ pairs_before lions (first + 1)
+next_first lions first before own all upto before_is own_is all_is upto_is =
+    sums before (pairs_before lions first) own (forms_left lions first) all (forms_upto lions free_squares) upto (forms_upto lions (suc first)) before_is own_is all_is
+    (upto_is ∙ ap (forms_upto lions) (let e : first + 1 ≡ suc first = omega arith in e))
+    ∙ sym (sum_below_more (λ f. forms_left lions f * (forms_upto lions free_squares - forms_upto lions (suc f))) first)
+  where
+    sums : (a b c d e f g h : ℕ) → a ≡ b → c ≡ d → e ≡ f → g ≡ h → a + c * (e - g) ≡ b + d * (f - h)
+    sums a b c d e f g h i j k l = cc
+
+pub one_more_left : (lions first seen own : ℕ) → seen ≡ forms_upto lions first → own ≡ forms_left lions first → seen + own ≡ forms_upto lions (first + 1)
+one_more_left lions first seen own seen_is own_is = sums seen (forms_upto lions first) own (forms_left lions first) seen_is own_is ∙ sym (sum_below_more (forms_left lions) first)
+  where
+    sums : (a b c d : ℕ) → a ≡ b → c ≡ d → a + c ≡ b + d
+    sums a b c d e f = cc
+
+pub none_left : (lions number first before : ℕ) → number < pairs_before lions free_squares → 10 ≤ first → first ≤ 10 → before ≡ pairs_before lions first
+    → before ≤ number → ⊥
+none_left lions number first before fits out upto is low =
+    over number before (pairs_before lions free_squares) fits (is ∙ ap (pairs_before lions) (let e : first ≡ 10 = omega (arith, out, upto) in e)) low
+  where
+    over : (a b c : ℕ) → a < c → b ≡ c → b ≤ a → ⊥
+    over a b c h e k = omega (arith, h, e, k)

@@ -25,9 +25,6 @@ low_digits n m b w hb hw e = same_from_place (n / w % b) (n % w) (m / w % b) (m 
 more_digits : (base t : ℕ) (ls : List ℕ) → base ^ count t (t ∷ ls) ≡ base * base ^ count t ls
 more_digits base t ls = ap (λ (x : ℕ). base ^ x) (count_same t ls) ∙ pow-succ' base (count t ls)
 
-pub allowed_other : (ok : ℕ → ℕ → Bool) (base t n s l : ℕ) (ls : List ℕ) → (l ≡ t → ⊥) → are_allowed ok base t n s (l ∷ ls) ≡ are_allowed ok base t n (suc s) ls
-allowed_other ok base t n s l ls h = rw (ne_eqb l t h) refl
-
 -- only the low digits of the number matter
 pub allowed_low : (ok : ℕ → ℕ → Bool) (base t n m s : ℕ) (ls : List ℕ) → 0 < base → n % base ^ count t ls ≡ m % base ^ count t ls
     → are_allowed ok base t n s ls ≡ are_allowed ok base t m s ls
