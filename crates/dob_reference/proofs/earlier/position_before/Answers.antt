@@ -1,6 +1,6 @@
 -- An open position before the move is legal where its lion is at home, and one of the family where the piece that was caught may stand again.
-use Rattle.std.proofs.Common.{subst, sym, true≢false, ◌∙◌}
-use Rattle.dob_pieces.specs.Setups.{HasLionOffFarRow}
+use Rattle.std.proofs.Common.{arith, rules, subst, sym, ◌∙◌}
+use Rattle.std.proofs.lemmas.Grind.{common_steps}
 use Rattle.dob_pieces.specs.declared.profile.Profile.TheVariants.{A}
 use Rattle.dob_pieces.specs.declared.setup.Setup.{Setup}
 use Rattle.dob_moves.specs.declared.position_status.Status.TheVariants.{Open}
@@ -25,7 +25,7 @@ earlier-setup-requires-clause-few c = few_turned c.args.after.now (legal_turned 
 pub new-requires : goal.new-requires
 new-requires c =
     legal_before c.args.after.now c.earlier-setup.result c.args.undo c.requires.can (legal_turned c.args.family c.args.after.now c.requires.of_set)
-    c.earlier-setup.ensures (c.has_lion_off_far_row.ensures.0 c.if-has_lion_off_far_row.true)
+    c.earlier-setup.ensures (search rules)
 
 pub returns-then-has_lion_off_far_row : goal.returns-then-has_lion_off_far_row
 returns-then-has_lion_off_far_row c =
@@ -39,6 +39,4 @@ returns-then-has_lion_off_far_row c =
     )
 
 pub returns-else-has_lion_off_far_row : goal.returns-else-has_lion_off_far_row
-returns-else-has_lion_off_far_row c = λ is was.
-    true≢false
-    (sym (c.has_lion_off_far_row.ensures.1 (subst HasLionOffFarRow (sym c.earlier-setup.ensures) was.legal.home)) ∙ c.if-has_lion_off_far_row.false)
+returns-else-has_lion_off_far_row c = λ is. grind (arith, common_steps)
