@@ -1,5 +1,5 @@
 -- What is stored and read again.
-use Rattle.dob_history.proofs.Common.{◌%◌, ◌*◌, ◌++◌, ◌+◌, ◌-◌, ◌/◌, ◌<◌, ◌∙◌, ◌∷◌, ◌≡◌, ◌≤◌, Draw, HistoryView, IsEntry, List, Settlement, Some, StatusesView}
+use Rattle.dob_history.proofs.Common.{◌%◌, ◌*◌, ◌++◌, ◌+◌, ◌-◌, ◌/◌, ◌<◌, ◌∙◌, ◌∷◌, ◌≡◌, ◌≤◌, Draw, HistoryView, List, Settlement, Some, StatusesView}
 use Rattle.dob_history.proofs.Common.{Stored, Value, [], ap, arith, class_of_place, div-add-mod, get_or, get_or_from_slice_get, length, length-append, mul_comm}
 use Rattle.dob_history.proofs.Common.{opening_value, refl, set, settled_among, settlement_stored, settlements_from, settlements_of, slice_get, slice_get-get_or}
 use Rattle.dob_history.proofs.Common.{slice_get_within, start_status, starts_count, starts_of, subst, suc, sym, take, value_of_code, zero, ℕ}
