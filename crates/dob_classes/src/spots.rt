@@ -14,7 +14,7 @@ use dob_rank::block;
 use dob_rank::chick_forms::forms_in;
 use dob_rank::run_places::{number_of_place, others_ways};
 use dob_rank::runs::{LIONS, Spot};
-use dob_rank::set_ranks::spot_by;
+use dob_rank::set_ranks::{numbers_in, spot_by};
 
 /// How many positions of the family a run has before that place, or before its end. Inlined: for rules A it returns `place`.
 #[inline(always)]
@@ -56,12 +56,12 @@ pub(crate) fn spot_in(family: Family, board: &Board) -> (u64, Spot)
         → result.1.local ≡ marks_below (is_there family (block_of family.set setup) (run_of family.set setup)) (local_of setup) }
 {
     let (block, spot) = spot_by(family.set, board);
-    let local = count_before(family, block, spot.run, spot.local);
-    (
-        block,
-        Spot {
-            run: spot.run,
-            local,
-        },
-    )
+    match family.profile {
+        Profile::A => (block, spot),
+        Profile::B => {
+            let run = spot.run;
+            let local = number_of_place(&numbers_in(board), run % LIONS, spot.local);
+            (block, Spot { run, local })
+        }
+    }
 }

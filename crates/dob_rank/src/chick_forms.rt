@@ -47,6 +47,7 @@ pub fn choice_of(chicks: u64, lions: u64, number: u64) -> Choice
 }
 
 // How many choices with forms stand before the one of that number.
+#[inline(always)]
 fn before_choice(chicks: u64, lions: u64, number: u64) -> u64
     requires chicks { chicks ≤ 2 }
     requires lions { lions < LIONS }
@@ -62,6 +63,7 @@ fn before_choice(chicks: u64, lions: u64, number: u64) -> u64
 }
 
 // The same of two squares: those with an earlier first square, and those with its first one and an earlier second one.
+#[inline(always)]
 fn before_pair(lions: u64, number: u64) -> u64
     requires lions { lions < LIONS }
     requires number { number < choose FREE_SQUARES 2 }
@@ -75,6 +77,7 @@ fn before_pair(lions: u64, number: u64) -> u64
 }
 
 // How many forms chicks have in all on the squares before the one of that number.
+#[inline(always)]
 fn forms_upto(lions: u64, number: u64) -> u64
     requires lions { lions < LIONS }
     requires number { number ≤ FREE_SQUARES }
@@ -89,6 +92,7 @@ fn forms_upto(lions: u64, number: u64) -> u64
 }
 
 // The square of that number of those that two lions leave, beyond the last one 12.
+#[inline(always)]
 fn left_square(lions: u64, number: u64) -> u64
     requires lions { lions < LIONS }
     requires number { number ≤ FREE_SQUARES }
@@ -99,6 +103,7 @@ fn left_square(lions: u64, number: u64) -> u64
 }
 
 // How many forms two chicks have in all whose first square is before the one of that number.
+#[inline(always)]
 fn pairs_before(lions: u64, number: u64) -> u64
     requires lions { lions < LIONS }
     requires number { number ≤ FREE_SQUARES }
